@@ -1,0 +1,97 @@
+-- The edges of document 01, with a row at least for each of the numbers 1 to 9, as one table with one theorem.
+-- A row has the call, the length of the answer area, the bytes handed in, and the number and place that come back.
+-- Then the program's example there and back, and the order of item 3 where degrees are equal.
+use mathlib.Core.Path.{_≡_, refl}
+use Prim.Native.Nat.{ℕ}
+use mathlib.Core.List.{List, [], _∷_, _++_, map}
+use Rattle.specification.specs.Open.{everything}
+use Rattle.specification.specs.Powers.{monics}
+use Rattle.specification.specs.Calls.{Outcome, success, splitCall, readCall}
+
+-- a row of the table
+pub record Edge : Type 0 where
+  pub call : ℕ → List ℕ → Outcome
+  pub area : ℕ
+  pub bytes : List ℕ
+  pub number : ℕ
+  pub place : ℕ
+
+-- a row, in the order of its fields
+abbrev edge : (ℕ → List ℕ → Outcome) → ℕ → List ℕ → ℕ → ℕ → Edge
+edge call area bytes k at = record { call = call; area = area; bytes = bytes; number = k; place = at }
+
+-- what the definitions give for a row's call
+abbrev worked : Edge → Edge
+worked e =
+    let o : Outcome = (e .call) (e .area) (e .bytes) in
+    edge (e .call) (e .area) (e .bytes) (o .number) (o .place)
+
+-- the program's sheet: "x³ + 6x² + 4 modulo 9, Example 4.6"
+abbrev pub example : List ℕ
+example = 0x01 ∷ 3 ∷ 0x02 ∷ 3 ∷ 0x03 ∷ 0 ∷ 4 ∷ 0x03 ∷ 2 ∷ 6 ∷ 0x0F ∷ []
+
+-- its answer: one part 1 3 split, the factors x + 1 twice and x + 4 once, the totals 3, 2, 2
+abbrev pub exampleAnswer : List ℕ
+exampleAnswer =
+    0x01 ∷ 3 ∷ 0x02 ∷ 3 ∷ 0x11 ∷ 1 ∷ 3 ∷ 4 ∷ 0x12 ∷ 1 ∷ 2 ∷ 0x03 ∷ 0 ∷ 1 ∷ 0x12 ∷ 1 ∷ 1 ∷ 0x03 ∷ 0 ∷ 4
+    ∷ 0x13 ∷ 3 ∷ 2 ∷ 2 ∷ 0x0F ∷ []
+
+-- the table: the rows of document 01 under their text, then the others
+abbrev pub edges : List Edge
+edges =
+    -- "degree 0 and 33 give 5, 1 and 32 pass"
+    edge splitCall 384 (0x01 ∷ 2 ∷ 0x02 ∷ 0 ∷ 0x0F ∷ []) 5 3
+    ∷ edge splitCall 384 (0x01 ∷ 2 ∷ 0x02 ∷ 33 ∷ 0x0F ∷ []) 5 3
+    ∷ edge splitCall 384 (0x01 ∷ 2 ∷ 0x02 ∷ 1 ∷ 0x0F ∷ []) 0 0
+    ∷ edge splitCall 384 (0x01 ∷ 2 ∷ 0x02 ∷ 32 ∷ 0x0F ∷ []) 0 0
+    -- "With p = 2 the value 3 passes, 4 and 0 give 7"
+    ∷ edge splitCall 384 (0x01 ∷ 2 ∷ 0x02 ∷ 2 ∷ 0x03 ∷ 0 ∷ 3 ∷ 0x0F ∷ []) 0 0
+    ∷ edge splitCall 384 (0x01 ∷ 2 ∷ 0x02 ∷ 2 ∷ 0x03 ∷ 0 ∷ 4 ∷ 0x0F ∷ []) 7 6
+    ∷ edge splitCall 384 (0x01 ∷ 2 ∷ 0x02 ∷ 2 ∷ 0x03 ∷ 0 ∷ 0 ∷ 0x0F ∷ []) 7 6
+    -- "Index n − 1 passes, n gives 6"
+    ∷ edge splitCall 384 (0x01 ∷ 2 ∷ 0x02 ∷ 2 ∷ 0x03 ∷ 1 ∷ 1 ∷ 0x0F ∷ []) 0 0
+    ∷ edge splitCall 384 (0x01 ∷ 2 ∷ 0x02 ∷ 2 ∷ 0x03 ∷ 2 ∷ 1 ∷ 0x0F ∷ []) 6 5
+    -- "An area of 383 bytes gives 1, 384 passes"
+    ∷ edge splitCall 383 example 1 0
+    ∷ edge splitCall 384 example 0 0
+    -- "An empty sheet gives 2 at 0"
+    ∷ edge splitCall 384 [] 2 0
+    -- "Prime 4 with degree 40 gives 4"; "01 04 gives `refused 4 at 1`"
+    ∷ edge splitCall 384 (0x01 ∷ 4 ∷ 0x02 ∷ 40 ∷ 0x0F ∷ []) 4 1
+    ∷ edge splitCall 384 (0x01 ∷ 4 ∷ []) 4 1
+    -- 2 where the bytes end; 3 at each command's place
+    ∷ edge splitCall 384 (0x01 ∷ 2 ∷ 0x02 ∷ 2 ∷ 0x03 ∷ 0 ∷ []) 2 6
+    ∷ edge splitCall 384 (0x02 ∷ 2 ∷ []) 3 0
+    ∷ edge splitCall 384 (0x01 ∷ 2 ∷ 0x03 ∷ []) 3 2
+    ∷ edge splitCall 384 (0x01 ∷ 2 ∷ 0x02 ∷ 2 ∷ 0x02 ∷ []) 3 4
+    -- 6 where an index comes again, and past n − 1; 8 after the end
+    ∷ edge splitCall 384 (0x01 ∷ 2 ∷ 0x02 ∷ 2 ∷ 0x03 ∷ 0 ∷ 1 ∷ 0x03 ∷ 0 ∷ 1 ∷ 0x0F ∷ []) 6 8
+    ∷ edge splitCall 384 (0x01 ∷ 2 ∷ 0x02 ∷ 1 ∷ 0x03 ∷ 0 ∷ 1 ∷ 0x03 ∷ 1 ∷ 1 ∷ 0x0F ∷ []) 6 8
+    ∷ edge splitCall 384 (0x01 ∷ 2 ∷ 0x02 ∷ 1 ∷ 0x0F ∷ 0x0F ∷ []) 8 5
+    -- "The answer reader gives only 1 and 9"
+    ∷ edge readCall 383 exampleAnswer 1 0
+    ∷ edge readCall 384 exampleAnswer 0 0
+    ∷ edge readCall 384 (exampleAnswer ++ (0x0F ∷ [])) 9 0
+    ∷ edge readCall 384 example 9 0
+    ∷ edge readCall 384 [] 9 0
+    ∷ []
+
+-- the definitions give the table
+pub edges-hold : map worked edges ≡ edges
+unfolding everything
+edges-hold = refl
+
+-- the program's example, there
+pub example-answered : splitCall 384 example ≡ success exampleAnswer
+unfolding everything
+example-answered = refl
+
+-- and back
+pub example-read : readCall 384 exampleAnswer ≡ success example
+unfolding everything
+example-read = refl
+
+-- item 3 at degree 2 modulo 2: x², x² + 1, x² + x, x² + x + 1, "from the highest power down, smaller first"
+pub order-holds : monics 2 2 ≡ (0 ∷ 0 ∷ 1 ∷ []) ∷ (1 ∷ 0 ∷ 1 ∷ []) ∷ (0 ∷ 1 ∷ 1 ∷ []) ∷ (1 ∷ 1 ∷ 1 ∷ []) ∷ []
+unfolding everything
+order-holds = refl

@@ -1,0 +1,9 @@
+-- The inverse of a number modulo n: item 8 divides by m modulo p.
+-- "The table's rule, entry times unit leaves 1", is about the inverses modulo p².
+use Prim.Native.Nat.{ℕ, _*_, _%_}
+use lib.Dec.{eqb}
+use Rattle.specification.specs.Lists.{first, below}
+
+-- the least b below n with b·a = 1 modulo n, and 0 where there is none
+unfoldable pub inverse : ℕ → ℕ → ℕ
+inverse n a = first (λ (b : ℕ). eqb (b * a % n) 1) 0 (below n)

@@ -1,0 +1,31 @@
+-- The figures that document 01 settles: the primes, the highest degree, the length of the answer area.
+-- No definition elsewhere has them as figures.
+use Prim.Native.Nat.{ℕ, suc}
+use mathlib.Core.Bool.{Bool}
+use mathlib.Core.List.{List, [], _∷_}
+use lib.Dec.{eqb}
+use Rattle.specification.specs.Lists.{any}
+
+-- "the prime is 2, 3, 5 or 7"
+unfoldable pub primes : List ℕ
+primes = 2 ∷ 3 ∷ 5 ∷ 7 ∷ []
+
+-- a number is a taken prime: number 4 asks it of a sheet, number 10 of a record
+unfoldable pub taken : ℕ → Bool
+taken p = any (eqb p) primes
+
+-- "the limit of 32"
+abbrev pub degreeLimit : ℕ
+degreeLimit = 32
+
+-- "33 coefficients": one for each power up to the limit, and the constant
+abbrev pub coefficientCount : ℕ
+coefficientCount = suc degreeLimit
+
+-- number 1: "The answer area is shorter than 384 bytes"
+abbrev pub answerArea : ℕ
+answerArea = 384
+
+-- "the zero polynomial of prime 2", which refused calls give back
+abbrev pub refusedPrime : ℕ
+refusedPrime = 2

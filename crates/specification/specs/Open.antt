@@ -1,0 +1,36 @@
+-- `unfolding everything` opens all definitions at once, to compute with them.
+-- The tables of `Trials` and `Edges` are worked with it; a proof opens only what it needs.
+use mathlib.Core.List.{flatMap}
+use Rattle.specification.specs.Lists.{all, any, first, upFrom, below, same}
+use Rattle.specification.specs.Limits.{primes, taken}
+use Rattle.specification.specs.Polynomials.{isZero, plus, multiple, shift, times, reduce, add, scale, sub, mul, pow, product, lift}
+use Rattle.specification.specs.Polynomials.{withoutTop, remainder, quotients, quotient, divides}
+use Rattle.specification.specs.Inverses.{inverse}
+use Rattle.specification.specs.Records.{proper, trim, pad, primeNumber, pairNumber, productNumber, divisionNumber}
+use Rattle.specification.specs.Records.{constant, sum, difference, productOf, division}
+use Rattle.specification.specs.Powers.{polynomials, monics, monicsTo, highest, listed, powersAmong, powers, lifts, primary}
+use Rattle.specification.specs.Parts.{hBar, m1, w, u, splitting, partsOf}
+use Rattle.specification.specs.Totals.{members, listOf, different, freeDigits}
+use Rattle.specification.specs.Sheets.{step, atEnd, readFrom, readSheet, coefficientBytes, sheetBytes}
+use Rattle.specification.specs.Answers.{factorBytes, partBytes, totalBytes, answer}
+use Rattle.specification.specs.FactorList.{operandCount, commandsAfter, withCoefficients, factorsIn, totalIn, factorList, factorTotal, differentTotal}
+use Rattle.specification.specs.Calls.{answerTo, splitCall, sheetIn, isAnswerTo, readCall}
+
+unfoldable pub everything : Unit {0}
+unfolding
+    flatMap
+    all any first upFrom below same
+    primes taken
+    isZero plus multiple shift times reduce add scale sub mul pow product lift
+    withoutTop remainder quotients quotient divides
+    inverse
+    proper trim pad primeNumber pairNumber productNumber divisionNumber
+    constant sum difference productOf division
+    polynomials monics monicsTo highest listed powersAmong powers lifts primary
+    hBar m1 w u splitting partsOf
+    members listOf different freeDigits
+    step atEnd readFrom readSheet coefficientBytes sheetBytes
+    factorBytes partBytes totalBytes answer
+    operandCount commandsAfter withCoefficients factorsIn totalIn factorList factorTotal differentTotal
+    answerTo splitCall sheetIn isAnswerTo readCall
+everything = tt
