@@ -1,0 +1,117 @@
+-- Fields, and that ℤ/p is one for a prime p: the inverse of a is −(p / a) times that of p % a.
+-- Proves it of every prime that document 01 takes, by one computed test over the list of primes. Assumes nothing.
+use mathlib.Core.Path.{_≡_, refl, sym, _∙_, ap, subst}
+use mathlib.Core.Bool.{Bool, not, _&&_}
+use mathlib.Core.Logic.{_⊎_, inl, inr, _≢_}
+use Prim.Native.Nat.{ℕ, zero, suc, _+_ as _+ℕ_, _*_ as _*ℕ_, _-_, _<_, _≤_, _%_, _/_}
+use native.Mathlib.Nat.{mod-lt, div-add-mod, pos-of-ne-zero, eq-or-lt-of-le, mod-eq-of-lt, zero-mod}
+use native.Mathlib.Decide.{ℕ-discrete}
+use native.Mathlib.Omega.{arith}
+use lib.Dec.{T, eqb, leb, leb→le}
+use Rattle.specification.specs.Limits.{primes, taken}
+use Rattle.specification.specs.Lists.{all, upFrom}
+use Rattle.algebra.specs.Ring.{CommRing, ring, zero-mul, neg-zero, add-zero as add-𝟘}
+use Rattle.algebra.specs.Identities.{_⊕_, _⊖_, _⊗_, ⊝_, _≈_, solve}
+use Rattle.algebra.specs.Residues.{
+  ℤ/,
+  residue,
+  Residues,
+  residue-path,
+  residue-zero,
+  residue-one,
+  residue-add,
+  residue-mul,
+  residue-value,
+  residue-self,
+  value-below,
+  same-remainder,
+}
+use Rattle.algebra.specs.ListLaws.{all-member, left, right, member-passes, upFrom-has}
+
+-- equality is decided, and what is not 𝟘 has an inverse
+pub record Field {R : Type 0} (𝓡 : CommRing R) : Type 0 where
+  pub decide : Discrete R
+  pub inverse : (a : R) → a ≢ 𝓡 .𝟘 → (b : R) × (𝓡 .mul a b ≡ 𝓡 .𝟙)
+  pub one-ne-zero : 𝓡 .𝟙 ≢ 𝓡 .𝟘
+
+pub record Prime (p : ℕ) : Type 0 where
+  pub large : 1 < p
+  pub undivided : (a : ℕ) → 1 < a → a < p → p % a ≢ 0
+
+pub prime-pos : {p : ℕ} → Prime p → 0 < p
+prime-pos P = let l = P .large in omega arith
+
+pub residue-discrete : (n : ℕ) → Discrete (ℤ/ n)
+residue-discrete n a b = go (ℕ-discrete (a .value) (b .value))
+  where
+    go : Dec (a .value ≡ b .value) → Dec (a ≡ b)
+    go (yes e) = yes (residue-path e)
+    go (no k) = no (λ e. k (ap (λ (c : ℤ/ n). c .value) e))
+
+-- more than one element
+pub residue-nontrivial : {n : ℕ} → 1 < n → (Residues n) .𝟙 ≢ (Residues n) .𝟘
+residue-nontrivial {n} l e =
+    let q = same-remainder n (omega arith) 1 0 (residue-one n ∙ e ∙ sym (residue-zero n)) in
+    omega (arith, q, mod-eq-of-lt l, zero-mod n)
+
+module _ (p : ℕ) (P : Prime p) where
+  infixl 60 _+_
+  infixl 70 _*_
+  open CommRing (Residues p) using (add as _+_, mul as _*_, neg, 𝟘, 𝟙)
+
+  -- from a·q + r = p and r·b = 1
+  invert-step : (a q r : ℕ) → a *ℕ q +ℕ r ≡ p → (b : ℤ/ p) → residue p r * b ≡ 𝟙 → residue p a * (neg (residue p q) * b) ≡ 𝟙
+  invert-step a q r e b h =
+      solve (Residues p) 4 (λ a q r b. a ⊗ (⊝ q ⊗ b) ≈ r ⊗ b ⊖ (a ⊗ q ⊕ r) ⊗ b) tt (residue p a) (residue p q) (residue p r) b
+      ∙ ap (λ c. residue p r * b + neg (c * b)) whole
+      ∙ simp (zero-mul, neg-zero, add-𝟘) h
+    where
+      whole : residue p a * residue p q + residue p r ≡ 𝟘
+      whole =
+          sym (residue-add p (a *ℕ q) r ∙ ap (λ c. c + residue p r) (residue-mul p a q)) ∙ ap (residue p) e
+          ∙ residue-self p (prime-pos P)
+
+  -- by descent on a
+  invert : (fuel a : ℕ) → a ≤ fuel → 0 < a → a < p → (b : ℤ/ p) × (residue p a * b ≡ 𝟙)
+  invert zero a l z s = absurd (omega arith)
+  invert (suc fuel) a l z s = go (eq-or-lt-of-le z) (λ r h k. invert fuel r h k)
+    where
+      go : (1 ≡ a) ⊎ (1 < a) → ((r : ℕ) → r ≤ fuel → 0 < r → r < p → (b : ℤ/ p) × (residue p r * b ≡ 𝟙))
+          → (b : ℤ/ p) × (residue p a * b ≡ 𝟙)
+      go (inl e) f = (𝟙, ap (λ (k : ℕ). residue p k * 𝟙) (sym e) ∙ ap (λ c. c * 𝟙) (residue-one p) ∙ (Residues p) .*-one 𝟙)
+      go (inr k) f =
+          let m = mod-lt p z in
+          let t = f (p % a) (omega arith) (pos-of-ne-zero (P .undivided a k s)) (omega arith) in
+          (neg (residue p (p / a)) * t .0, invert-step a (p / a) (p % a) (div-add-mod p a) (t .0) (t .1))
+
+  value-pos : (a : ℤ/ p) → a ≢ 𝟘 → 0 < a .value
+  value-pos a h = pos-of-ne-zero (λ e. h (sym (residue-value p a) ∙ ap (residue p) e ∙ residue-zero p))
+
+  pub residue-field : Field (Residues p)
+  residue-field = record {
+    decide = residue-discrete p;
+    inverse = λ a h.
+        let t = invert (a .value) (a .value) (omega arith) (value-pos a h) (value-below p (prime-pos P) a) in
+        (t .0, ap (λ c. c * t .0) (sym (residue-value p a)) ∙ t .1);
+    one-ne-zero = residue-nontrivial (P .large);
+  }
+
+-- ---- the primes that document 01 takes
+
+-- no number from 2 to p − 1 divides p
+unfoldable pub isPrime : ℕ → Bool
+isPrime p = leb 2 p && all (λ (a : ℕ). not (eqb (p % a) 0)) (upFrom 2 (p - 2))
+
+pub prime-by : (p : ℕ) → T (isPrime p) → Prime p
+unfolding isPrime
+prime-by p t = record { large = leb→le 2 p (left (leb 2 p) _ t); undivided = undivided }
+  where
+    undivided : (a : ℕ) → 1 < a → a < p → p % a ≢ 0
+    undivided a l k e =
+        subst (λ (m : ℕ). T (not (eqb m 0))) e
+        (all-member (λ (b : ℕ). not (eqb (p % b) 0)) (upFrom 2 (p - 2)) (right (leb 2 p) _ t) (upFrom-has 2 (p - 2) l (omega arith)))
+
+-- every taken prime is one: the test passes on the whole list
+pub taken-prime : (p : ℕ) → T (taken p) → Prime p
+unfolding taken primes isPrime all upFrom
+taken-prime p t = prime-by p (member-passes isPrime p primes t tt)

@@ -1,0 +1,93 @@
+-- How long the specification's coefficient lists are, and that their entries are below the modulus.
+-- Assumes nothing.
+use mathlib.Core.Path.{_≡_, refl, _∙_, ap}
+use mathlib.Core.List.{List, [], _∷_, map}
+use mathlib.Core.Logic.{⊎-elim}
+use Prim.Native.Nat.{ℕ, zero, suc, _≤_, _<_, _+_, _*_, _%_, _-_}
+use native.Mathlib.Nat.{mod-lt}
+use native.Mathlib.Omega.{arith}
+use lib.ListN.{length, getD, take, replicate, length-map, length-take, length-replicate, getD-replicate, List·getD-eq-default}
+use lib.Seq.{getD-take}
+use Rattle.specification.specs.Polynomials.{plus, multiple, shift, times, reduce, add, scale, sub}
+use Rattle.algebra.specs.Numbers.{lt-or-le}
+use Rattle.algebra.specs.CoefficientLists.{Reduced}
+
+pub length-plus : (f g : List ℕ) → length g ≤ length f → length (plus f g) ≡ length f
+unfolding plus
+length-plus [] [] h = refl
+length-plus [] (b ∷ g) h = absurd (omega arith)
+length-plus (a ∷ f) [] h = refl
+length-plus (a ∷ f) (b ∷ g) h = ap suc (length-plus f g (omega arith))
+
+pub length-plus-right : (f g : List ℕ) → length f ≤ length g → length (plus f g) ≡ length g
+unfolding plus
+length-plus-right [] g h = refl
+length-plus-right (a ∷ f) [] h = absurd (omega arith)
+length-plus-right (a ∷ f) (b ∷ g) h = ap suc (length-plus-right f g (omega arith))
+
+pub length-multiple : (c : ℕ) (f : List ℕ) → length (multiple c f) ≡ length f
+unfolding multiple
+length-multiple c f = length-map f (λ (a : ℕ). c * a)
+
+pub length-reduce : (n : ℕ) (f : List ℕ) → length (reduce n f) ≡ length f
+unfolding reduce
+length-reduce n f = length-map f (λ (a : ℕ). a % n)
+
+pub length-scale : (n c : ℕ) (f : List ℕ) → length (scale n c f) ≡ length f
+unfolding scale
+length-scale n c f = length-reduce n (multiple c f) ∙ length-multiple c f
+
+pub length-add : (n : ℕ) (f g : List ℕ) → length g ≤ length f → length (add n f g) ≡ length f
+unfolding add
+length-add n f g h = length-reduce n (plus f g) ∙ length-plus f g h
+
+pub length-sub : (n : ℕ) (f g : List ℕ) → length g ≤ length f → length (sub n f g) ≡ length f
+unfolding sub
+length-sub n f g h = length-add n f (scale n (n - 1) g) (omega (arith, length-scale n (n - 1) g))
+
+pub length-shift : (f : List ℕ) → 0 < length f → length (shift f) ≡ suc (length f)
+unfolding shift
+length-shift [] h = absurd (omega arith)
+length-shift (a ∷ f) h = refl
+
+-- degrees add
+pub length-times : (a b : ℕ) (f g : List ℕ) → length (times (a ∷ f) (b ∷ g)) ≡ suc (length f + length g)
+unfolding times shift
+length-times a b [] g = length-plus (multiple a (b ∷ g)) [] (omega arith) ∙ length-multiple a (b ∷ g) ∙ omega arith
+length-times a b (c ∷ f) g =
+    let shorter : length (times (c ∷ f) (b ∷ g)) ≡ suc (length f + length g) = length-times c b f g in
+    let longer : length (shift (times (c ∷ f) (b ∷ g))) ≡ suc (length (times (c ∷ f) (b ∷ g))) =
+    length-shift (times (c ∷ f) (b ∷ g)) (omega arith) in
+    length-plus-right (multiple a (b ∷ g)) (shift (times (c ∷ f) (b ∷ g))) (omega (arith, length-multiple a (b ∷ g)))
+    ∙ longer ∙ omega arith
+
+-- a list of zeros is 0 everywhere
+pub getD-zeros : (k j : ℕ) → _≡_ {A = ℕ} (getD (replicate k 0) j 0) 0
+getD-zeros k j =
+    ⊎-elim (λ l. getD-replicate k j 0 0 l)
+    (λ l. List·getD-eq-default (replicate k 0) 0 {n = j} (omega (arith, length-replicate {A = ℕ} k 0))) (lt-or-le j k)
+
+-- ---- entries below the modulus
+
+module _ (n : ℕ) (pos : 0 < n) where
+  pub low-reduce : (f : List ℕ) (k : ℕ) → getD (reduce n f) k 0 < n
+  unfolding reduce
+  low-reduce f k =
+      ⊎-elim (λ l. rw (at f k l) (mod-lt (getD f k 0) pos)) (λ l. rw (past l) pos) (lt-or-le k (length f))
+    where
+      at : (f : List ℕ) (k : ℕ) → k < length f → getD (map (λ (a : ℕ). a % n) f) k 0 ≡ getD f k 0 % n
+      at [] k l = absurd (omega arith)
+      at (a ∷ f) zero l = refl
+      at (a ∷ f) (suc k) l = at f k (omega arith)
+
+      past : length f ≤ k → getD (map (λ (a : ℕ). a % n) f) k 0 ≡ 0
+      past l = List·getD-eq-default (map (λ (a : ℕ). a % n) f) 0 {n = k} (omega (arith, length-map f (λ (a : ℕ). a % n)))
+
+  pub reduced-reduce : (f : List ℕ) → Reduced n (length f) (reduce n f)
+  reduced-reduce f = record { len = length-reduce n f; low = low-reduce f }
+
+  pub low-take : (d : ℕ) (f : List ℕ) → ((k : ℕ) → getD f k 0 < n) → (k : ℕ) → getD (take d f) k 0 < n
+  low-take d f h k = ⊎-elim (λ l. rw (getD-take d f k 0 l) (h k)) (λ l. rw (past l) pos) (lt-or-le k d)
+    where
+      past : d ≤ k → getD (take d f) k 0 ≡ 0
+      past l = List·getD-eq-default (take d f) 0 {n = k} (omega (arith, length-take d f))

@@ -1,0 +1,23 @@
+-- Facts on natural numbers that the kit's library lacks: trichotomy as a choice, and remainders inside a remainder.
+-- Assumes nothing.
+use mathlib.Core.Path.{_≡_, sym, _∙_, ap}
+use mathlib.Core.Logic.{_⊎_, inl, inr, ⊎-elim}
+use Prim.Native.Nat.{ℕ, zero, suc, _+_, _*_, _%_, _/_, _<_, _≤_, zero-le, suc-le-suc}
+use native.Mathlib.Nat.{mod-mod, mod-add-mod, add-mod-mod, mul-comm, add-mul-mod-self-left, mod-add-div}
+use native.Mathlib.Omega.{arith}
+
+pub lt-or-le : (a b : ℕ) → (a < b) ⊎ (b ≤ a)
+lt-or-le a zero = inr zero-le
+lt-or-le zero (suc b) = inl (suc-le-suc zero-le)
+lt-or-le (suc a) (suc b) = ⊎-elim (λ l. inl (suc-le-suc l)) (λ l. inr (suc-le-suc l)) (lt-or-le a b)
+
+pub mul-mod-mod : (a b n : ℕ) → a * (b % n) % n ≡ a * b % n
+mul-mod-mod a b n = sym (add-mul-mod-self-left (a * (b % n)) n (a * (b / n))) ∙ ap (λ x. x % n) whole
+  where
+    whole : a * (b % n) + n * (a * (b / n)) ≡ a * b
+    whole = omega (arith, ap (λ (x : ℕ). a * x) (mod-add-div b n))
+
+pub mod-mul-mod : (a b n : ℕ) → a % n * b % n ≡ a * b % n
+mod-mul-mod a b n = rw (mul-comm (a % n) b, mul-mod-mod, mul-comm b a)
+
+pub ruleset modulo = (mod-add-mod, add-mod-mod, mod-mul-mod, mul-mod-mod, mod-mod)

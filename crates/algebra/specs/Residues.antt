@@ -1,0 +1,125 @@
+-- The ring ℤ/n, as the numbers below n. It is taken for every n, with one element for n = 0, so that no statement
+-- carries a proof that n is positive. `residue n x` is the class of the number x.
+-- Proves the ring laws, and that `residue n` turns sums and products of numbers into those of the ring. Assumes nothing.
+use mathlib.Core.Path.{_≡_, refl, sym, _∙_, ap}
+use mathlib.Core.HLevel.{Σ-set, prop→set, isProp→PathP}
+use Prim.Native.Nat.{ℕ, zero, suc, _+_ as _+ℕ_, _*_ as _*ℕ_, _-_, _%_, _<_, _≤_}
+use native.Mathlib.Bridge.{le-prop}
+use native.Mathlib.Omega.{arith}
+use native.Mathlib.Nat.{
+  ℕ-set,
+  zero-mod,
+  mod-lt,
+  mod-eq-of-lt,
+  mod-mod,
+  mod-self,
+  add-assoc,
+  add-comm,
+  mul-assoc,
+  mul-comm,
+  mul-add,
+  zero-add,
+  one-mul,
+  sub-add-cancel,
+  le-of-lt,
+}
+use Rattle.algebra.specs.Numbers.{modulo}
+use Rattle.algebra.specs.Ring.{CommRing, neg-unique}
+
+-- n, and 1 for 0
+abbrev pub positive : ℕ → ℕ
+positive n = suc (n - 1)
+
+pub positive-is : {n : ℕ} → 0 < n → positive n ≡ n
+positive-is h = omega arith
+
+pub record ℤ/ (n : ℕ) : Type 0 where
+  pub value : ℕ
+  pub below : value < positive n
+
+-- classes with the same number are equal
+pub residue-path : {n : ℕ} {a b : ℤ/ n} → a .value ≡ b .value → a ≡ b
+residue-path {n} {a} {b} e = λ i. record { value = e i; below = isProp→PathP (λ j. e j < positive n) (λ j. le-prop) (a .below) (b .below) i }
+
+pub residue-set : (n : ℕ) → IsSet (ℤ/ n)
+residue-set n a b p q = λ i j. from (Σ-set ℕ-set (λ k. prop→set le-prop) (pair a) (pair b) (λ k. pair (p k)) (λ k. pair (q k)) i j)
+  where
+    pair : ℤ/ n → (k : ℕ) × (k < positive n)
+    pair c = (c .value, c .below)
+
+    from : (k : ℕ) × (k < positive n) → ℤ/ n
+    from c = record { value = c .0; below = c .1 }
+
+module _ (n : ℕ) where
+  unfoldable pub residue : ℕ → ℤ/ n
+  residue x = record { value = x % positive n; below = mod-lt x (omega arith) }
+
+  unfoldable pub Residues : CommRing (ℤ/ n)
+  unfolding residue
+  Residues = record {
+    add = λ a b. residue (a .value +ℕ b .value);
+    mul = λ a b. residue (a .value *ℕ b .value);
+    neg = λ a. residue (positive n - a .value);
+    𝟘 = residue 0;
+    𝟙 = residue 1;
+    isSet = residue-set n;
+    +-assoc = λ a b c. residue-path (simp (modulo, add-assoc));
+    +-comm = λ a b. residue-path (rw (add-comm (a .value) (b .value)));
+    +-zero = λ a. residue-path (simp (modulo, zero-add, mod-eq-of-lt (a .below)));
+    +-neg = λ a. residue-path (simp (modulo, sub-add-cancel (le-of-lt (a .below)), mod-self) (sym (zero-mod (positive n))));
+    *-assoc = λ a b c. residue-path (simp (modulo, mul-assoc));
+    *-comm = λ a b. residue-path (rw (mul-comm (a .value) (b .value)));
+    *-one = λ a. residue-path (simp (modulo, one-mul, mod-eq-of-lt (a .below)));
+    distrib = λ a b c. residue-path (simp (modulo, mul-add));
+  }
+
+  infixl 60 _+_
+  infixl 70 _*_
+  open CommRing Residues using (add as _+_, mul as _*_, neg, 𝟘, 𝟙)
+
+  pub residue-add : (x y : ℕ) → residue (x +ℕ y) ≡ residue x + residue y
+  unfolding Residues residue
+  residue-add x y = residue-path (simp modulo)
+
+  pub residue-mul : (x y : ℕ) → residue (x *ℕ y) ≡ residue x * residue y
+  unfolding Residues residue
+  residue-mul x y = residue-path (simp modulo)
+
+  pub residue-zero : residue 0 ≡ 𝟘
+  unfolding Residues
+  residue-zero = refl
+
+  pub residue-one : residue 1 ≡ 𝟙
+  unfolding Residues
+  residue-one = refl
+
+  -- every class is that of its number
+  pub residue-value : (a : ℤ/ n) → residue (a .value) ≡ a
+  unfolding residue
+  residue-value a = residue-path (mod-eq-of-lt (a .below))
+
+  module _ (pos : 0 < n) where
+    pub value-residue : (x : ℕ) → (residue x) .value ≡ x % n
+    unfolding residue
+    value-residue x = ap (λ (m : ℕ). x % m) (positive-is pos)
+
+    pub value-below : (a : ℤ/ n) → a .value < n
+    value-below a = let e : positive n ≡ n = positive-is pos in omega (arith, a .below)
+
+    pub residue-self : residue n ≡ 𝟘
+    unfolding residue Residues
+    residue-self = residue-path (value-residue n ∙ mod-self n ∙ sym (zero-mod (positive n)))
+
+    pub residue-mod : (x : ℕ) → residue (x % n) ≡ residue x
+    unfolding residue
+    residue-mod x = residue-path (value-residue (x % n) ∙ mod-mod x n ∙ sym (value-residue x))
+
+    -- the negative of a number's class, as the code has it
+    pub residue-neg : (x : ℕ) → x ≤ n → residue (n - x) ≡ neg (residue x)
+    residue-neg x l =
+        neg-unique Residues
+        (sym (residue-add x (n - x)) ∙ ap residue (let e : x +ℕ (n - x) ≡ n = omega arith in e) ∙ residue-self)
+
+    -- numbers of one class leave the same remainder
+    pub same-remainder : (x y : ℕ) → residue x ≡ residue y → x % n ≡ y % n
+    same-remainder x y e = sym (value-residue x) ∙ ap (λ a. a .value) e ∙ value-residue y

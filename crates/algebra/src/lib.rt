@@ -1,0 +1,1 @@
+// Commutative rings, residues modulo n and polynomials over them: mathematics only, in specs/.
