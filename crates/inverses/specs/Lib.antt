@@ -1,0 +1,5 @@
+pub mod Every
+pub mod Rule
+pub mod Table
+pub mod Unique
+pub mod Answer

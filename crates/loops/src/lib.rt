@@ -1,0 +1,1 @@
+// The laws that the proofs of loops and branches cite: proof tools only, in specs/.
