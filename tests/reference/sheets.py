@@ -1,0 +1,73 @@
+"""Sheets of document 01: reading with the numbers 2 to 8 and their places, and writing."""
+
+from typing import NamedTuple
+
+from arithmetic import LIMIT, TAKEN_PRIMES
+
+PRIME, DEGREE, COEFFICIENT, END = 0x01, 0x02, 0x03, 0x0F
+
+
+class Sheet(NamedTuple):
+    """A prime p and a monic polynomial modulo p² of degree 1 to 32."""
+
+    prime: int
+    polynomial: list
+
+
+class Refusal(Exception):
+    """ "the first place at fault ends the reading" """
+
+    def __init__(self, number: int, place: int):
+        super().__init__(number, place)
+        self.number, self.place = number, place
+
+
+def byte_at(data: bytes, place: int) -> int:
+    """The byte due at a place. 2: "The sheet ends where a command or operand is due; the place is the sheet's length." """
+    if place >= len(data):
+        raise Refusal(2, len(data))
+    return data[place]
+
+
+def command(data: bytes, place: int, *allowed: int) -> int:
+    """3: "A byte at a command's place is not a command allowed there." """
+    byte = byte_at(data, place)
+    if byte not in allowed:
+        raise Refusal(3, place)
+    return byte
+
+
+def operand(data: bytes, place: int, number: int, allowed) -> int:
+    """An operand that is refused with the number, at its own place, unless it is allowed."""
+    byte = byte_at(data, place)
+    if byte not in allowed:
+        raise Refusal(number, place)
+    return byte
+
+
+def read_sheet(data: bytes) -> Sheet:
+    """ "A sheet is 0x01, 0x02, any number of 0x03, 0x0F." """
+    command(data, 0, PRIME)
+    prime = operand(data, 1, 4, TAKEN_PRIMES)
+    command(data, 2, DEGREE)
+    top = operand(data, 3, 5, range(1, LIMIT + 1))
+    polynomial = [0] * top + [1]
+    place, least = 4, 0
+    while command(data, place, COEFFICIENT, END) == COEFFICIENT:
+        index = operand(data, place + 1, 6, range(least, top))
+        polynomial[index] = operand(data, place + 2, 7, range(1, prime * prime))
+        place, least = place + 3, index + 1
+    if place + 1 < len(data):
+        raise Refusal(8, place + 1)
+    return Sheet(prime, polynomial)
+
+
+def coefficient_commands(polynomial: list) -> bytes:
+    """ "0x03 commands for every coefficient other than 0 below the top, index rising" """
+    return b"".join(bytes([COEFFICIENT, i, c]) for i, c in enumerate(polynomial[:-1]) if c != 0)
+
+
+def sheet_bytes(sheet: Sheet) -> bytes:
+    """The one sheet of a polynomial."""
+    head = bytes([PRIME, sheet.prime, DEGREE, len(sheet.polynomial) - 1])
+    return head + coefficient_commands(sheet.polynomial) + bytes([END])

@@ -1,0 +1,73 @@
+"""The two calls on bytes and the program `split` of document 01.
+
+Run as a program it reads a sheet from standard input and prints the lines: python3 tests/reference/splitter.py < SHEET
+"""
+
+import sys
+from typing import NamedTuple
+
+from answers import answer_bytes, sheet_of_answer
+from parts import WORDS, parts_of, totals_of
+from polynomials import degree
+from sheets import Refusal, Sheet, read_sheet, sheet_bytes
+
+AREA = 384
+
+
+class Outcome(NamedTuple):
+    """Number, place, count of bytes written, and the answer area afterwards."""
+
+    number: int
+    place: int
+    count: int
+    area: bytes
+
+
+def written(area: bytes, answer: bytes) -> Outcome:
+    """ "Success gives number 0, place 0 and the count of bytes written [..] bytes past that count keep their entry values." """
+    return Outcome(0, 0, len(answer), answer + area[len(answer) :])
+
+
+def refused(area: bytes, number: int, place: int) -> Outcome:
+    """ "a refused call counts 0", and changes no byte of the answer area."""
+    return Outcome(number, place, 0, area)
+
+
+def split(sheet: bytes, area: bytes) -> Outcome:
+    """From a sheet to its answer. "Number 1 comes before all." """
+    if len(area) < AREA:
+        return refused(area, 1, 0)
+    try:
+        return written(area, answer_bytes(read_sheet(sheet)))
+    except Refusal as refusal:
+        return refused(area, refusal.number, refusal.place)
+
+
+def read(answer: bytes, area: bytes) -> Outcome:
+    """From an answer back to its sheet. "The answer reader gives only 1 and 9." """
+    if len(area) < AREA:
+        return refused(area, 1, 0)
+    sheet = sheet_of_answer(answer)
+    return refused(area, 9, 0) if sheet is None else written(area, sheet_bytes(sheet))
+
+
+def lines_of(sheet: Sheet) -> list:
+    """The lines that `split` prints for an accepted sheet."""
+    parts = parts_of(sheet.prime, sheet.polynomial)
+    lines = ["prime {} degree {}".format(sheet.prime, degree(sheet.polynomial))]
+    for part in parts:
+        lines.append("part {} {} {}".format(degree(part.base), part.m, WORDS[part.verdict]))
+        lines += ["factor " + " ".join(map(str, (count, *factor))) for factor, count in part.factors]
+    return lines + ["total {} different {} free {}".format(*totals_of(parts))]
+
+
+def program(data: bytes) -> list:
+    """The lines that `split` prints for these bytes of standard input."""
+    try:
+        return lines_of(read_sheet(data))
+    except Refusal as refusal:
+        return ["refused {} at {}".format(refusal.number, refusal.place)]
+
+
+if __name__ == "__main__":
+    print("\n".join(program(sys.stdin.buffer.read())))
