@@ -5,7 +5,7 @@ use mathlib.Core.List.{List, [], _∷_, _++_}
 use Prim.Native.Nat.{ℕ, zero, suc, _≤_, _-_, _+_ as _+ℕ_, _*_ as _*ℕ_}
 use native.Mathlib.Nat.{suc-add, zero-add as zero-addℕ, zero-mul as zero-mulℕ}
 use native.Mathlib.Omega.{arith}
-use Rattle.algebra.specs.Ring.{CommRing, ring, linear2, mul-one, one-mul, mul-assoc}
+use Rattle.algebra.specs.Ring.{CommRing, ring, linear2, mul-one, one-mul, mul-assoc, zero-mul}
 use Rattle.algebra.specs.Identities.{con, _⊕_, _⊖_, _⊗_, ⊝_, _≈_, solve}
 
 module _ {R : Type 0} (𝓡 : CommRing R) where
@@ -85,6 +85,9 @@ module _ {R : Type 0} (𝓡 : CommRing R) where
 
   pub one-divides : (a : R) → 𝟙 ∣ a
   one-divides a = (a, mul-one 𝓡 a)
+
+  pub divides-zero : (a : R) → a ∣ 𝟘
+  divides-zero a = (𝟘, zero-mul 𝓡 a)
 
   pub divides-add : {a b c : R} → a ∣ b → a ∣ c → a ∣ b + c
   divides-add {a} {b} {c} (p, e) (q, e′) = (

@@ -20,7 +20,7 @@ use Rattle.algebra.specs.Residues.{
   value-residue,
   same-remainder,
 }
-use Rattle.algebra.specs.Polynomials.{PolyRing, constant, each, poly-ext, coef-zero, coef-constant-mul, constant-mul, constant-zero}
+use Rattle.algebra.specs.Polynomials.{Poly, PolyRing, constant, each, poly-ext, coef-zero, coef-constant-mul, constant-mul, constant-zero}
 use Rattle.algebra.specs.Homomorphisms.{Homomorphism, map-poly, map-homomorphism, map-constant}
 
 pub record Extension {A B : Type 0} (𝓐 : CommRing A) (𝓑 : CommRing B) (bar : A → B) : Type 0 where
@@ -117,6 +117,18 @@ module _ (p : ℕ) (pos : 0 < p) where
     kill = residue-kill;
   }
 
+  pub residue-π : residue-extension .π ≡ residue (p *ℕ p) p
+  unfolding residue-extension
+  residue-π = refl
+
+  pub residue-lift : (b : ℤ/ p) → residue-extension .lift b ≡ residue (p *ℕ p) (b .value)
+  unfolding residue-extension
+  residue-lift b = refl
+
+  pub residue-part : (a : ℤ/ (p *ℕ p)) → residue-extension .part a ≡ residue (p *ℕ p) (a .value / p)
+  unfolding residue-extension
+  residue-part a = refl
+
 -- ---- polynomials
 
 module _ {A B : Type 0} {𝓐 : CommRing A} {𝓑 : CommRing B} {bar : A → B} (E : Extension 𝓐 𝓑 bar) where
@@ -138,3 +150,15 @@ module _ {A B : Type 0} {𝓐 : CommRing A} {𝓑 : CommRing B} {bar : A → B} 
     kill = λ a e. poly-ext (λ k.
         E .kill (a .coef k) (sym (coef-constant-mul (E .π) a k) ∙ ap (λ b. b .coef k) e ∙ coef-zero 𝓐 k) ∙ sym (coef-zero 𝓑 k));
   }
+
+  pub poly-π : poly-extension .π ≡ constant (E .π)
+  unfolding poly-extension
+  poly-π = refl
+
+  pub coef-lift : (b : Poly 𝓑) (k : ℕ) → (poly-extension .lift b) .coef k ≡ E .lift (b .coef k)
+  unfolding poly-extension each
+  coef-lift b k = refl
+
+  pub coef-part : (a : Poly 𝓐) (k : ℕ) → (poly-extension .part a) .coef k ≡ E .part (a .coef k)
+  unfolding poly-extension each
+  coef-part a k = refl

@@ -26,7 +26,8 @@ use Rattle.algebra.specs.Residues.{
   value-below,
   same-remainder,
 }
-use Rattle.algebra.specs.ListLaws.{all-member, left, right, member-passes, upFrom-has}
+use Rattle.algebra.specs.Tests.{left, right}
+use Rattle.algebra.specs.ListLaws.{all-member, member-passes, upFrom-has}
 
 -- equality is decided, and what is not 𝟘 has an inverse
 pub record Field {R : Type 0} (𝓡 : CommRing R) : Type 0 where

@@ -8,6 +8,7 @@ pub mod Polynomials
 pub mod Degree
 pub mod Division
 pub mod Leading
+pub mod Tests
 pub mod ListLaws
 pub mod Fields
 pub mod Bezout

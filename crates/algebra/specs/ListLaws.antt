@@ -1,7 +1,7 @@
--- Laws of the specification's notions on lists: all, any, the first that passes a test, and the numbers from b on.
+-- Laws of the specification's notions on lists: all, any, the first that passes a test, the numbers from b on, and when two are the same.
 -- Assumes nothing.
-use mathlib.Core.Path.{_≡_, refl, sym, subst}
-use mathlib.Core.Bool.{Bool, true, false, _&&_, _||_}
+use mathlib.Core.Path.{_≡_, refl, sym, ap₂, subst}
+use mathlib.Core.Bool.{Bool, true, false, _||_}
 use mathlib.Core.List.{List, [], _∷_, List·Memᴰ, List·Memᴰ·cases-cons}
 use mathlib.Core.List.{List·Memᴰ·head as here, List·Memᴰ·tail as there}
 use mathlib.Core.Logic.{⊎-elim}
@@ -9,20 +9,9 @@ use Prim.Native.Nat.{ℕ, zero, suc, _+_, _<_, _≤_}
 use native.Mathlib.Nat.{eq-or-lt-of-le}
 use native.Mathlib.Omega.{arith}
 use lib.ListN.{length, getD}
-use lib.Dec.{T, eqb, eqb→eq}
-use Rattle.specification.specs.Lists.{all, any, first, upFrom}
-
-pub both : (a b : Bool) → T a → T b → T (a && b)
-both true b s t = t
-both false b s t = absurd s
-
-pub left : (a b : Bool) → T (a && b) → T a
-left true b t = tt
-left false b t = t
-
-pub right : (a b : Bool) → T (a && b) → T b
-right true b t = t
-right false b t = absurd t
+use lib.Dec.{T, eqb, eqb→eq, eqb-refl}
+use Rattle.specification.specs.Lists.{all, any, first, upFrom, same}
+use Rattle.algebra.specs.Tests.{both, left, right}
 
 module _ {A : Type 0} (test : A → Bool) where
   -- all pass, so each does
@@ -93,3 +82,18 @@ pub upFrom-has : (b k : ℕ) {a : ℕ} → b ≤ a → a < b + k → List·Mem�
 unfolding upFrom
 upFrom-has b zero l u = absurd (omega arith)
 upFrom-has b (suc k) l u = ⊎-elim (λ e. here (sym e)) (λ h. there (upFrom-has (suc b) k h (omega arith))) (eq-or-lt-of-le l)
+
+-- ---- the test of two lists decides their equality
+
+pub same-equal : (f g : List ℕ) → T (same f g) → f ≡ g
+unfolding same
+same-equal [] [] t = refl
+same-equal [] (b ∷ g) t = absurd t
+same-equal (a ∷ f) [] t = absurd t
+same-equal (a ∷ f) (b ∷ g) t =
+    ap₂ {C = List ℕ} _∷_ (eqb→eq a b (left (eqb a b) (same f g) t)) (same-equal f g (right (eqb a b) (same f g) t))
+
+pub same-refl : (f : List ℕ) → T (same f f)
+unfolding same
+same-refl [] = tt
+same-refl (a ∷ f) = both (eqb a a) (same f f) (eqb-refl a) (same-refl f)

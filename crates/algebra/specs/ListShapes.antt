@@ -1,12 +1,12 @@
 -- How long the specification's coefficient lists are, and that their entries are below the modulus.
 -- Assumes nothing.
-use mathlib.Core.Path.{_≡_, refl, _∙_, ap}
+use mathlib.Core.Path.{_≡_, refl, sym, _∙_, ap}
 use mathlib.Core.List.{List, [], _∷_, map}
 use mathlib.Core.Logic.{⊎-elim}
 use Prim.Native.Nat.{ℕ, zero, suc, _≤_, _<_, _+_, _*_, _%_, _-_}
-use native.Mathlib.Nat.{mod-lt}
+use native.Mathlib.Nat.{mod-lt, zero-mod}
 use native.Mathlib.Omega.{arith}
-use lib.ListN.{length, getD, take, replicate, length-map, length-take, length-replicate, getD-replicate, List·getD-eq-default}
+use lib.ListN.{length, getD, take, replicate, length-map, length-take, length-replicate, getD-replicate, List·getD-eq-default, List·getD-map}
 use lib.Seq.{getD-take}
 use Rattle.specification.specs.Polynomials.{plus, multiple, shift, times, reduce, add, scale, sub}
 use Rattle.algebra.specs.Numbers.{lt-or-le}
@@ -69,19 +69,17 @@ getD-zeros k j =
 
 -- ---- entries below the modulus
 
+-- a function that keeps 0, on each entry
+pub getD-map : (g : ℕ → ℕ) → g 0 ≡ 0 → (f : List ℕ) (k : ℕ) → getD (map g f) k 0 ≡ g (getD f k 0)
+getD-map g e f k = ap (getD (map g f) k) (sym e) ∙ List·getD-map g f k 0
+
+pub getD-reduce : (n : ℕ) (f : List ℕ) (k : ℕ) → getD (reduce n f) k 0 ≡ getD f k 0 % n
+unfolding reduce
+getD-reduce n f k = getD-map (λ (a : ℕ). a % n) (zero-mod n) f k
+
 module _ (n : ℕ) (pos : 0 < n) where
   pub low-reduce : (f : List ℕ) (k : ℕ) → getD (reduce n f) k 0 < n
-  unfolding reduce
-  low-reduce f k =
-      ⊎-elim (λ l. rw (at f k l) (mod-lt (getD f k 0) pos)) (λ l. rw (past l) pos) (lt-or-le k (length f))
-    where
-      at : (f : List ℕ) (k : ℕ) → k < length f → getD (map (λ (a : ℕ). a % n) f) k 0 ≡ getD f k 0 % n
-      at [] k l = absurd (omega arith)
-      at (a ∷ f) zero l = refl
-      at (a ∷ f) (suc k) l = at f k (omega arith)
-
-      past : length f ≤ k → getD (map (λ (a : ℕ). a % n) f) k 0 ≡ 0
-      past l = List·getD-eq-default (map (λ (a : ℕ). a % n) f) 0 {n = k} (omega (arith, length-map f (λ (a : ℕ). a % n)))
+  low-reduce f k = rw getD-reduce (mod-lt (getD f k 0) pos)
 
   pub reduced-reduce : (f : List ℕ) → Reduced n (length f) (reduce n f)
   reduced-reduce f = record { len = length-reduce n f; low = low-reduce f }

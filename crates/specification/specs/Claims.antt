@@ -1,14 +1,15 @@
--- What is claimed of the definitions, as types: irreducible, term 3, and items 1 to 3 with their uniqueness.
+-- What is claimed of the definitions, as types: irreducible, term 3, items 1 to 3 with their uniqueness, and items 4 to 9.
 -- No search stands in them: they speak of all products, all lists and all sheets. Term 3 has the words of document 00.
 use mathlib.Core.Path.{_≡_}
 use mathlib.Core.Logic.{_⊎_}
-use Prim.Native.Nat.{ℕ, _*_, _≤_, _<_}
+use Prim.Native.Nat.{ℕ, _+_, _*_, _≤_, _<_}
 use mathlib.Core.List.{List, [], _∷_, map, List·Memᴰ}
 use lib.ListN.{length, getD, take}
 use Rattle.specification.specs.Limits.{answerArea}
 use Rattle.specification.specs.Polynomials.{Poly, degree, leading, reduce, mul, pow, product}
 use Rattle.specification.specs.Powers.{Power, powers, primary}
-use Rattle.specification.specs.Totals.{different}
+use Rattle.specification.specs.Parts.{Factor, partOf}
+use Rattle.specification.specs.Totals.{members, different}
 use Rattle.specification.specs.Sheets.{Sheet, accepted, readSheet}
 use Rattle.specification.specs.Answers.{answer}
 use Rattle.specification.specs.FactorList.{factorList, factorTotal, differentTotal}
@@ -112,3 +113,26 @@ pub record Items (p : ℕ) (f : Poly) : Type 0 where
 -- items 1 to 3 of every accepted sheet
 abbrev pub Items1to3 : Type 0
 Items1to3 = (bytes : List ℕ) (s : Sheet) → readSheet bytes ≡ accepted s → Items (s .prime) (s .poly)
+
+-- ---- items 4 to 9
+
+-- items 4 to 9 of the part over a power: its factors are a longest list of it, with the fewest different ones
+pub record PartSplit (p : ℕ) (f : Poly) (P : Power) : Type 0 where
+  pub longest : let L : List Poly = members (partOf p f P) in Longest (p * p) (primary p f P) L (length L) (different L)
+  -- "m times", "m1 times", "once"
+  pub repeated : (q : Factor) → List·Memᴰ q (partOf p f P .splitting .factors) → 1 ≤ q .times
+
+-- items 4 to 9 of every accepted sheet
+abbrev pub Items4to9 : Type 0
+Items4to9 =
+    (bytes : List ℕ) (s : Sheet) → readSheet bytes ≡ accepted s
+    → (P : Power) → List·Memᴰ P (powers (s .prime) (s .poly)) → PartSplit (s .prime) (s .poly) P
+
+-- the degrees of a list written out, so that each counts "times its repeats"
+unfoldable pub degreeSum : List Poly → ℕ
+degreeSum [] = 0
+degreeSum (f ∷ fs) = degree f + degreeSum fs
+
+-- "The degrees of the factors, each times its repeats, add up to the degree of f"
+abbrev pub DegreesAddUp : Type 0
+DegreesAddUp = (bytes : List ℕ) (s : Sheet) → readSheet bytes ≡ accepted s → degreeSum (factorList (answer s)) ≡ degree (s .poly)

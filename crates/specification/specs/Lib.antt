@@ -12,6 +12,7 @@ pub mod Answers
 pub mod FactorList
 pub mod Calls
 pub mod Claims
+pub mod Promises
 pub mod Open
 pub mod Trials
 pub mod Edges
