@@ -1,0 +1,160 @@
+-- What follows from the laws of a square-zero extension A → B, and the numbers n·1 of a ring.
+-- Proves the bars of sums, products and powers (ruleset `bars`), that equal bars differ by a multiple of π, that coprimality and
+-- cancellation lift from bars, and the binomial theorem for x + π·t, where π² = 0. Assumes nothing.
+use mathlib.Core.Path.{_≡_, refl, sym, _∙_, ap}
+use mathlib.Core.List.{List, [], _∷_}
+use mathlib.Core.List.{List·Memᴰ·head as here}
+use Prim.Native.Nat.{ℕ, zero, suc}
+use Rattle.algebra.specs.Ring.{CommRing, zero-mul, add-zero, sub-self, eq-of-sub, linear1, linear2}
+use Rattle.algebra.specs.Identities.{con, _⊕_, _⊖_, _⊗_, ⊝_, _≈_, solve}
+use Rattle.algebra.specs.Divisibility.{Coprime, pow, pow-zero, pow-one, pow-suc, product, product-nil, product-cons, coprime-one, coprime-mul}
+use Rattle.algebra.specs.Homomorphisms.{keeps-zero, keeps-neg, keeps-pow}
+use Rattle.algebra.specs.Extension.{Extension}
+use Rattle.factorisation.specs.Members.{All, all-tail}
+
+-- n·1
+unfoldable pub number : {R : Type 0} → CommRing R → ℕ → R
+number 𝓡 zero = 𝓡 .𝟘
+number 𝓡 (suc n) = 𝓡 .add (𝓡 .𝟙) (number 𝓡 n)
+
+module _ {R : Type 0} (𝓡 : CommRing R) where
+  pub number-zero : number 𝓡 0 ≡ 𝓡 .𝟘
+  unfolding number
+  number-zero = refl
+
+  pub number-suc : (n : ℕ) → number 𝓡 (suc n) ≡ 𝓡 .add (𝓡 .𝟙) (number 𝓡 n)
+  unfolding number
+  number-suc n = refl
+
+module _ {A B : Type 0} {𝓐 : CommRing A} {𝓑 : CommRing B} {bar : A → B} (E : Extension 𝓐 𝓑 bar) where
+  infixl 60 _+_ _∔_
+  infixl 70 _*_ _∗_
+  open CommRing 𝓐 using (add as _+_, mul as _*_, neg, 𝟘, 𝟙)
+  open CommRing 𝓑 using (add as _∔_, mul as _∗_, 𝟘 as 𝟎, 𝟙 as 𝟏)
+  open Extension E using (π)
+
+  -- ---- bars
+
+  pub bar-add : (a b : A) → bar (a + b) ≡ bar a ∔ bar b
+  bar-add = E .hom .keeps-add
+
+  pub bar-mul : (a b : A) → bar (a * b) ≡ bar a ∗ bar b
+  bar-mul = E .hom .keeps-mul
+
+  pub bar-one : bar 𝟙 ≡ 𝟏
+  bar-one = E .hom .keeps-one
+
+  pub bar-neg : (a : A) → bar (neg a) ≡ 𝓑 .neg (bar a)
+  bar-neg = keeps-neg (E .hom)
+
+  pub bar-pow : (a : A) (n : ℕ) → bar (pow 𝓐 a n) ≡ pow 𝓑 (bar a) n
+  bar-pow = keeps-pow (E .hom)
+
+  pub bar-mul-pow : (a b : A) (n : ℕ) → bar (a * pow 𝓐 b n) ≡ bar a ∗ pow 𝓑 (bar b) n
+  bar-mul-pow a b n = bar-mul a (pow 𝓐 b n) ∙ ap (λ c. bar a ∗ c) (bar-pow b n)
+
+  pub bar-lift : (b : B) → bar (E .lift b) ≡ b
+  bar-lift = E .bar-lift
+
+  pub bar-number : (n : ℕ) → bar (number 𝓐 n) ≡ number 𝓑 n
+  bar-number zero = rw (number-zero 𝓐, number-zero 𝓑) (keeps-zero (E .hom))
+  bar-number (suc n) = rw (number-suc 𝓐 n, number-suc 𝓑 n, bar-add, bar-one, bar-number n)
+
+  pub bar-π-mul : (a : A) → bar (π * a) ≡ 𝟎
+  bar-π-mul a = bar-mul π a ∙ ap (λ b. b ∗ bar a) (E .bar-π) ∙ zero-mul 𝓑 (bar a)
+
+  pub bar-add-π : (a b : A) → bar (a + π * b) ≡ bar a
+  bar-add-π a b = bar-add a (π * b) ∙ ap (λ c. bar a ∔ c) (bar-π-mul b) ∙ add-zero 𝓑 (bar a)
+
+  -- the bar of g^n + π·h
+  pub bar-pow-π : (g h : A) (n : ℕ) → bar (pow 𝓐 g n + π * h) ≡ pow 𝓑 (bar g) n
+  bar-pow-π g h n = bar-add-π (pow 𝓐 g n) h ∙ bar-pow g n
+
+  bar-sub : (a b : A) → bar (a + neg b) ≡ bar a ∔ 𝓑 .neg (bar b)
+  bar-sub a b = bar-add a (neg b) ∙ ap (λ c. bar a ∔ c) (bar-neg b)
+
+  -- ---- multiples of π
+
+  -- equal bars: the difference is a multiple of π
+  pub difference : {a b : A} → bar a ≡ bar b → (c : A) × (a ≡ b + π * c)
+  difference {a} {b} e = (
+    E .part (a + neg b),
+    linear1 𝓐 𝟙 (E .kernel (a + neg b) (bar-sub a b ∙ sub-self 𝓑 e))
+        (solve 𝓐 4 (λ a b π c. a ⊖ (b ⊕ π ⊗ c) ≈ con 1 ⊗ (a ⊖ b ⊖ π ⊗ c)) tt a b π (E .part (a + neg b))),
+  )
+
+  pub π-injective : {a b : A} → π * a ≡ π * b → bar a ≡ bar b
+  π-injective {a} {b} e =
+      eq-of-sub 𝓑
+      (sym (bar-sub a b)
+      ∙ E .kill (a + neg b) (linear1 𝓐 𝟙 e (solve 𝓐 3 (λ a b π. π ⊗ (a ⊖ b) ⊖ con 0 ≈ con 1 ⊗ (π ⊗ a ⊖ π ⊗ b)) tt a b π)))
+
+  pub π-equal : {a b : A} → bar a ≡ bar b → π * a ≡ π * b
+  π-equal {a} {b} e =
+      let (c, h) = difference e in
+      linear2 𝓐 π c h (E .square) (solve 𝓐 4 (λ a b π c. π ⊗ a ⊖ π ⊗ b ≈ π ⊗ (a ⊖ (b ⊕ π ⊗ c)) ⊕ c ⊗ (π ⊗ π ⊖ con 0)) tt a b π c)
+
+  -- ---- what lifts from bars
+
+  pub coprime-lift : {a b : A} → Coprime 𝓑 (bar a) (bar b) → Coprime 𝓐 a b
+  coprime-lift {a} {b} c = make (E .lift (c .u)) (E .lift (c .v)) (difference one)
+    where
+      one : bar (E .lift (c .u) * a + E .lift (c .v) * b) ≡ bar 𝟙
+      one = simp (bar-add, bar-mul, bar-lift) (c .law ∙ sym bar-one)
+
+      -- multiply 1 + π·y by 1 − π·y
+      make : (u v : A) → (y : A) × (u * a + v * b ≡ 𝟙 + π * y) → Coprime 𝓐 a b
+      make u v (y, h) = record {
+        u = (𝟙 + neg (π * y)) * u;
+        v = (𝟙 + neg (π * y)) * v;
+        law = linear2 𝓐 (𝟙 + neg (π * y)) (neg (y * y)) h (E .square)
+            (solve 𝓐 6
+            (λ a b u v π y.
+            (con 1 ⊖ π ⊗ y) ⊗ u ⊗ a ⊕ (con 1 ⊖ π ⊗ y) ⊗ v ⊗ b ⊖ con 1
+            ≈ (con 1 ⊖ π ⊗ y) ⊗ (u ⊗ a ⊕ v ⊗ b ⊖ (con 1 ⊕ π ⊗ y)) ⊕ ⊝ (y ⊗ y) ⊗ (π ⊗ π ⊖ con 0)) tt a b u v π y);
+      }
+
+  -- the bar of a cancels, so a does
+  pub cancel-lift : {a : A} → ((b : B) → b ∗ bar a ≡ 𝟎 → b ≡ 𝟎) → {x y : A} → x * a ≡ y * a → x ≡ y
+  cancel-lift {a} cancel {x} {y} e = eq-of-sub 𝓐 (linear2 𝓐 𝟙 (E .part (E .part z)) (first ∙ ap (λ c. π * c) second) (E .square)
+      (solve 𝓐 3 (λ z π c. z ⊖ con 0 ≈ con 1 ⊗ (z ⊖ π ⊗ (π ⊗ c)) ⊕ c ⊗ (π ⊗ π ⊖ con 0)) tt z π (E .part (E .part z))))
+    where
+      z : A
+      z = x + neg y
+
+      gone : z * a ≡ 𝟘
+      gone = linear1 𝓐 𝟙 e (solve 𝓐 3 (λ x y a. (x ⊖ y) ⊗ a ⊖ con 0 ≈ con 1 ⊗ (x ⊗ a ⊖ y ⊗ a)) tt x y a)
+
+      in-kernel : (c : A) → bar (c * a) ≡ 𝟎 → c ≡ π * E .part c
+      in-kernel c h = E .kernel c (cancel (bar c) (sym (bar-mul c a) ∙ h))
+
+      first : z ≡ π * E .part z
+      first = in-kernel z (ap bar gone ∙ keeps-zero (E .hom))
+
+      second : E .part z ≡ π * E .part (E .part z)
+      second = in-kernel (E .part z) (E .kill (E .part z * a) (sym (𝓐 .*-assoc π (E .part z) a) ∙ ap (λ c. c * a) (sym first) ∙ gone))
+
+  -- coprime to the bar of each member, so to that of the product
+  pub coprime-bar-product : (b : B) (l : List A) → All (λ a. Coprime 𝓑 b (bar a)) l → Coprime 𝓑 b (bar (product 𝓐 l))
+  coprime-bar-product b [] h = rw (product-nil 𝓐, bar-one) (coprime-one 𝓑 b)
+  coprime-bar-product b (a ∷ l) h =
+      rw (product-cons 𝓐 a l, bar-mul a (product 𝓐 l))
+      (coprime-mul 𝓑 (h a (here refl)) (coprime-bar-product b l (all-tail h)))
+
+  -- ---- the binomial theorem
+
+  -- (x + π·t)^(k+1) = x^(k+1) + π·(k+1)·x^k·t
+  pub binomial : (k : ℕ) (x t : A) → pow 𝓐 (x + π * t) (suc k) ≡ pow 𝓐 x (suc k) + π * (number 𝓐 (suc k) * (pow 𝓐 x k * t))
+  binomial zero x t =
+      rw (pow-one 𝓐 x, pow-one 𝓐 (x + π * t), pow-zero 𝓐 x, number-suc 𝓐 0, number-zero 𝓐)
+      (solve 𝓐 3 (λ x π t. x ⊕ π ⊗ t ≈ x ⊕ π ⊗ ((con 1 ⊕ con 0) ⊗ (con 1 ⊗ t))) tt x π t)
+  binomial (suc k) x t =
+      pow-suc 𝓐 (x + π * t) (suc k) ∙ ap (λ y. (x + π * t) * y) (binomial k x t)
+      ∙ rw (pow-suc 𝓐 x (suc k), pow-suc 𝓐 x k, number-suc 𝓐 (suc k))
+      (linear1 𝓐 (t * number 𝓐 (suc k) * pow 𝓐 x k * t) (E .square)
+      (solve 𝓐 5
+      (λ x π t n y.
+      (x ⊕ π ⊗ t) ⊗ (x ⊗ y ⊕ π ⊗ (n ⊗ (y ⊗ t))) ⊖ (x ⊗ (x ⊗ y) ⊕ π ⊗ ((con 1 ⊕ n) ⊗ (x ⊗ y ⊗ t)))
+      ≈ t ⊗ n ⊗ y ⊗ t ⊗ (π ⊗ π ⊖ con 0)) tt x π t (number 𝓐 (suc k)) (pow 𝓐 x k)))
+
+pub ruleset bars = (bar-add, bar-mul, bar-one, bar-neg, bar-pow, bar-lift, bar-number, bar-π-mul)

@@ -1,0 +1,98 @@
+-- Lists in order: every member comes before all that follow it.
+-- Proves that appending, mapping and flattening keep lists in order, and that two lists with the same members, both in order by a
+-- strict order, are equal. Assumes nothing.
+use mathlib.Core.Path.{_≡_, refl, sym, _∙_, ap₂, subst}
+use mathlib.Core.List.{
+  List,
+  [],
+  _∷_,
+  _++_,
+  map,
+  flatMap,
+  List·Memᴰ·not-nil,
+  List·Memᴰ·cases-cons,
+  List·Memᴰ·append-cases,
+  Memᴰ·append-left,
+  Memᴰ·append-right,
+  Memᴰ·of-map,
+}
+use mathlib.Core.List.{List·Memᴰ·head as here, List·Memᴰ·tail as there}
+use mathlib.Core.Logic.{_⊎_, inl, inr, _≢_, ⊎-elim}
+use Rattle.factorisation.specs.Members.{_∈_, All}
+
+abbrev pub InOrder : {A : Type 0} → (A → A → Type 0) → List A → Type 0
+InOrder before [] = Unit {0}
+InOrder before (a ∷ l) = All (before a) l × InOrder before l
+
+pub in-order-append : {A : Type 0} (R : A → A → Type 0) (l m : List A) → InOrder R l → InOrder R m
+    → ((a b : A) → a ∈ l → b ∈ m → R a b) → InOrder R (l ++ m)
+in-order-append R [] m s t h = t
+in-order-append R (a ∷ l) m (first, s) t h =
+    ((λ b i. ⊎-elim (first b) (h a b (here refl)) (List·Memᴰ·append-cases l i)), in-order-append R l m s t (λ x y i j. h x y (there i) j))
+
+pub in-order-map : {A B : Type 0} (R : A → A → Type 0) (S : B → B → Type 0) (f : A → B) (l : List A)
+    → ((a b : A) → R a b → S (f a) (f b)) → InOrder R l → InOrder S (map f l)
+in-order-map R S f [] h s = tt
+in-order-map R S f (a ∷ l) h (first, s) =
+    ((λ c i. let (b, j, e) = Memᴰ·of-map f l i in subst (S (f a)) e (h a b (first b j))), in-order-map R S f l h s)
+
+pub in-order-by : {A : Type 0} (R S : A → A → Type 0) (l : List A) → ((a b : A) → a ∈ l → b ∈ l → R a b → S a b) → InOrder R l → InOrder S l
+in-order-by R S [] h s = tt
+in-order-by R S (a ∷ l) h (first, s) =
+    ((λ b i. h a b (here refl) (there i) (first b i)), in-order-by R S l (λ x y i j. h x y (there i) (there j)) s)
+
+-- ---- lists of lists
+
+module _ {A B : Type 0} (f : A → List B) where
+  pub mem-flatMap : (l : List A) {b : B} → b ∈ flatMap f l → (a : A) × (a ∈ l) × (b ∈ f a)
+  unfolding flatMap
+  mem-flatMap [] i = elim i [ ]
+  mem-flatMap (a ∷ l) i =
+      ⊎-elim (λ j. (a, here refl, j)) (λ j. let (c, k, m) = mem-flatMap l j in (c, there k, m)) (List·Memᴰ·append-cases (f a) i)
+
+  pub flatMap-mem : (l : List A) {a : A} {b : B} → a ∈ l → b ∈ f a → b ∈ flatMap f l
+  unfolding flatMap
+  flatMap-mem [] i j = elim i [ ]
+  flatMap-mem (c ∷ l) {b = b} i j =
+      ⊎-elim (λ e. Memᴰ·append-left (flatMap f l) (subst (λ x. b ∈ f x) e j)) (λ k. Memᴰ·append-right (f c) (flatMap-mem l k j))
+      (List·Memᴰ·cases-cons i)
+
+  pub in-order-flatMap : (R : A → A → Type 0) (S : B → B → Type 0) (l : List A)
+      → ((a : A) → a ∈ l → InOrder S (f a)) → ((a b : A) → R a b → (c d : B) → c ∈ f a → d ∈ f b → S c d)
+      → InOrder R l → InOrder S (flatMap f l)
+  unfolding flatMap
+  in-order-flatMap R S [] each cross s = tt
+  in-order-flatMap R S (a ∷ l) each cross (first, s) =
+      in-order-append S (f a) (flatMap f l) (each a (here refl)) (in-order-flatMap R S l (λ b i. each b (there i)) cross s)
+      (λ c d i j. let (b, k, m) = mem-flatMap l j in cross a b (first b k) c d i m)
+
+-- ---- one list only
+
+module _ {A : Type 0} where
+  pub record StrictOrder (before : A → A → Type 0) : Type 0 where
+    pub irreflexive : {a : A} → ¬ before a a
+    pub transitive : {a b c : A} → before a b → before b c → before a c
+
+  in-rest : {a b : A} {l : List A} → b ≢ a → b ∈ (a ∷ l) → b ∈ l
+  in-rest n i = ⊎-elim (λ e. absurd (n e)) (λ j. j) (List·Memᴰ·cases-cons i)
+
+  pub in-order-unique : {before : A → A → Type 0} → StrictOrder before → (l m : List A) → InOrder before l → InOrder before m
+      → All (λ a. a ∈ m) l → All (λ a. a ∈ l) m → l ≡ m
+  in-order-unique O [] [] h k f g = refl
+  in-order-unique O [] (b ∷ m) h k f g = absurd (List·Memᴰ·not-nil (g b (here refl)))
+  in-order-unique O (a ∷ l) [] h k f g = absurd (List·Memᴰ·not-nil (f a (here refl)))
+  in-order-unique {before} O (a ∷ l) (b ∷ m) (h, hs) (k, ks) f g =
+      ap₂ _∷_ same
+      (in-order-unique O l m hs ks (λ c i. in-rest (not-first h same i) (f c (there i))) (λ c i. in-rest (not-first k (sym same) i) (g c (there i))))
+    where
+      same : a ≡ b
+      same = go (List·Memᴰ·cases-cons (f a (here refl))) (List·Memᴰ·cases-cons (g b (here refl)))
+        where
+          go : (a ≡ b) ⊎ (a ∈ m) → (b ≡ a) ⊎ (b ∈ l) → a ≡ b
+          go (inl e) j = e
+          go (inr i) (inl e) = sym e
+          go (inr i) (inr j) = absurd (O .irreflexive (O .transitive (h b j) (k a i)))
+
+      -- what follows x is not x
+      not-first : {x y z : A} {s : List A} → All (before x) s → x ≡ y → z ∈ s → z ≢ y
+      not-first {x} {z = z} p e i q = O .irreflexive (subst (before x) (q ∙ sym e) (p z i))

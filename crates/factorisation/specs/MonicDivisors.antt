@@ -1,0 +1,80 @@
+-- Monic polynomials as divisors, over any commutative ring with 𝟙 ≢ 𝟘.
+-- Proves that a polynomial is monic of one degree only, that a monic divisor of a monic polynomial has at most its degree, that monic
+-- polynomials that divide each other are equal, so that they are a choice among associates. Assumes nothing.
+use mathlib.Core.Path.{_≡_, sym, _∙_, ap, ap₂}
+use mathlib.Core.Logic.{_≢_, ⊎-elim}
+use Prim.Native.Nat.{ℕ, _≤_, _<_, _+_ as _+ℕ_}
+use native.Mathlib.Nat.{le-antisymm}
+use native.Mathlib.Omega.{arith}
+use Rattle.algebra.specs.Numbers.{lt-or-le}
+use Rattle.algebra.specs.Ring.{CommRing, zero-mul, add-neg, eq-of-sub, linear1}
+use Rattle.algebra.specs.Identities.{con, _⊕_, _⊖_, _⊗_, _≈_, solve}
+use Rattle.algebra.specs.Divisibility.{_∣_, divides-refl}
+use Rattle.algebra.specs.Polynomials.{Poly, PolyRing, _+_, _·_, -_, 𝟎, 𝟏, coef-add, coef-neg}
+use Rattle.algebra.specs.Degree.{
+  Below,
+  Monic,
+  below-up,
+  below-add,
+  below-neg,
+  below-down,
+  below-𝟎,
+  small-multiple,
+  monic-one,
+  monic-mul,
+}
+use Rattle.algebra.specs.Division.{divided-unique}
+use Rattle.factorisation.specs.Monics.{Monics}
+
+module _ {R : Type 0} {𝓡 : CommRing R} where
+  -- monic of some degree
+  abbrev pub IsMonic : Poly 𝓡 → Type 0
+  IsMonic a = (d : ℕ) × Monic d a
+
+  monic-difference : {d : ℕ} {a b : Poly 𝓡} → Monic d a → Monic d b → Below d (a + - b)
+  monic-difference {d} {a} {b} m n = below-down (below-add (m .below) (below-neg (n .below))) top
+    where
+      top : (a + - b) .coef d ≡ 𝓡 .𝟘
+      top =
+          coef-add a (- b) d
+          ∙ ap₂ (𝓡 .add) (m .leading) (coef-neg b d ∙ ap (𝓡 .neg) (n .leading)) ∙ add-neg 𝓡 (𝓡 .𝟙)
+
+  pub monic-cancel-eq : {d : ℕ} {g : Poly 𝓡} → Monic d g → {a b : Poly 𝓡} → a · g ≡ b · g → a ≡ b
+  monic-cancel-eq {d} m {a} {b} e = divided-unique m a 𝟎 b 𝟎 (below-𝟎 d) (below-𝟎 d) (ap (λ z. z + 𝟎) e) .0
+
+  module _ (nontrivial : 𝓡 .𝟙 ≢ 𝓡 .𝟘) where
+    monic-not-below : {d : ℕ} {a : Poly 𝓡} → Monic d a → Below d a → ⊥
+    monic-not-below {d} m h = nontrivial (sym (m .leading) ∙ h .high d (omega arith))
+
+    pub monic-nonzero : {d : ℕ} {a : Poly 𝓡} → Monic d a → a ≢ 𝟎
+    monic-nonzero {d} m e = monic-not-below m (rw e (below-𝟎 d))
+
+    pub divisor-degree : {d e : ℕ} {a b : Poly 𝓡} → Monic d a → Monic e b → _∣_ (PolyRing 𝓡) a b → d ≤ e
+    divisor-degree {d} {e} {a} {b} m n (q, h) = ⊎-elim (λ l. absurd (monic-nonzero n (zero l))) (λ l. l) (lt-or-le e d)
+      where
+        zero : e < d → b ≡ 𝟎
+        zero l = sym h ∙ ap (λ c. c · a) (small-multiple m q (rw h (below-up (omega arith) (n .below)))) ∙ zero-mul (PolyRing 𝓡) a
+
+    pub monic-degree : {d e : ℕ} {a : Poly 𝓡} → Monic d a → Monic e a → d ≡ e
+    monic-degree {a = a} m n =
+        le-antisymm (divisor-degree m n (divides-refl (PolyRing 𝓡) a)) (divisor-degree n m (divides-refl (PolyRing 𝓡) a))
+
+    pub monic-antisym : {d e : ℕ} {a b : Poly 𝓡} → Monic d a → Monic e b → _∣_ (PolyRing 𝓡) a b → _∣_ (PolyRing 𝓡) b a → a ≡ b
+    monic-antisym {d} {e} {a} {b} m n (q, h) k =
+        sym (eq-of-sub (PolyRing 𝓡) (sym (divided-unique m q 𝟎 𝟏 (b + - a) (below-𝟎 d) (monic-difference (rw same n) m) whole .1)))
+      where
+        same : d ≡ e
+        same = le-antisymm (divisor-degree m n (q, h)) (divisor-degree n m k)
+
+        whole : q · a + 𝟎 ≡ 𝟏 · a + (b + - a)
+        whole =
+            linear1 (PolyRing 𝓡) 𝟏 h
+            (solve (PolyRing 𝓡) 3 (λ q a b. q ⊗ a ⊕ con 0 ⊖ (con 1 ⊗ a ⊕ (b ⊖ a)) ≈ con 1 ⊗ (q ⊗ a ⊖ b)) tt q a b)
+
+    -- products and powers of monic polynomials are monic
+    pub monics : Monics (PolyRing 𝓡) IsMonic
+    monics = record {
+      monic-one = (0, monic-one);
+      monic-mul = λ (d, m) (e, n). (d +ℕ e, monic-mul m n);
+      equal = λ (d, m) (e, n) (h, k). monic-antisym m n h k;
+    }
