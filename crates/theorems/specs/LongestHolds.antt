@@ -1,0 +1,164 @@
+-- Term 3 of the list that items 4 to 9 give for some of the parts of f: of all of them, and of one. Over every monic f and every prime.
+-- Proves `longest` and `part-longest` from the theory of longest lists. Assumes nothing.
+use mathlib.Core.Path.{_≡_, refl, sym, _∙_, ap, subst}
+use mathlib.Core.List.{List, [], _∷_, map, flatMap, append-nil, map-map, Memᴰ·map}
+use Prim.Native.Nat.{ℕ, _≤_, _<_, _+_ as _+ℕ_, _*_ as _*ℕ_}
+use native.Mathlib.Omega.{arith}
+use lib.ListN.{length, length-map}
+use Rattle.specification.specs.Polynomials as spec
+use Rattle.specification.specs.Powers.{Power, powers, primary}
+use Rattle.specification.specs.Parts.{partOf, partsOf}
+use Rattle.specification.specs.Totals.{members, listOf, total, different}
+use Rattle.specification.specs.Claims as claims
+use Rattle.algebra.specs.Ring.{CommRing, mul-one}
+use Rattle.algebra.specs.Divisibility.{product, product-nil, product-cons}
+use Rattle.algebra.specs.Residues.{Residues}
+use Rattle.algebra.specs.Polynomials.{PolyRing, _·_}
+use Rattle.algebra.specs.Degree.{monic-one}
+use Rattle.algebra.specs.Homomorphisms.{monic-map}
+use Rattle.algebra.specs.Fields.{Prime, residue-nontrivial}
+use Rattle.algebra.specs.CoefficientLists.{ℤ[x]/, poly, poly-mul, poly-product}
+use Rattle.factorisation.specs.Members.{_∈_, All, all-cons, all-map}
+use Rattle.factorisation.specs.Distinct.{distinct}
+use Rattle.factorisation.specs.MonicDivisors.{IsMonic, monics, divisor-degree, monic-degree}
+use Rattle.factorisation.specs.Monics.{MonicMap}
+use Rattle.factorisation.specs.LongestLists.{Part, Apart, FactorList, LongestList, Proper, whole, size, length-at-most, no-product}
+use Rattle.factorisation.specs.FewestDifferent.{different-at-least}
+use Rattle.theorems.specs.MonicLists.{MonicList, monic-poly, monic-same, monic-list-mul, from-claims}
+use Rattle.theorems.specs.MonicDivision.{monic-list-one, monic-list-product}
+use Rattle.theorems.specs.Reductions.{coefficients, barred}
+use Rattle.theorems.specs.Items.{powers-are, items}
+use Rattle.theorems.specs.ListExtension.{square-large, extension}
+use Rattle.theorems.specs.DifferentMembers.{decide, different-polys}
+use Rattle.theorems.specs.AllParts.{Known, known, list-over, ring-parts, monic-parts, parts-apart, whole-is, list-product, list-size, list-different, list-monic}
+
+module _ (p : ℕ) (prime : Prime p) {d : ℕ} {f : spec.Poly} (mf : MonicList (p *ℕ p) d f) where
+  abbrev 𝓐 : CommRing (ℤ[x]/ (p *ℕ p))
+  𝓐 = PolyRing (Residues (p *ℕ p))
+
+  abbrev large : 1 < p
+  large = prime .large
+
+  positive : 0 < p *ℕ p
+  positive = omega (arith, square-large p large)
+
+  -- ---- monic polynomials of degree 1 or more
+
+  is-monic : {q : spec.Poly} → claims.Monic (p *ℕ p) q → MonicList (p *ℕ p) (spec.degree q) q
+  is-monic = from-claims positive
+
+  -- none is a unit
+  proper : (q : spec.Poly) → claims.Monic (p *ℕ p) q → Proper (extension p large) (poly (p *ℕ p) q)
+  proper q m v =
+      omega (
+        arith,
+        m .positive,
+        divisor-degree (residue-nontrivial large) (monic-map ((coefficients p large) .hom) (monic-poly (is-monic m))) monic-one v,
+      )
+
+  same-monic : (a b : spec.Poly) → claims.Monic (p *ℕ p) a → claims.Monic (p *ℕ p) b → poly (p *ℕ p) a ≡ poly (p *ℕ p) b → a ≡ b
+  same-monic a b m n e =
+      monic-same (monic-degree (residue-nontrivial (square-large p large)) (monic-poly (is-monic m)) (rw e (monic-poly (is-monic n))))
+      (is-monic m) (is-monic n) e
+
+  monic-map-of : MonicMap 𝓐 (PolyRing (Residues p)) (barred p large) IsMonic IsMonic
+  monic-map-of = record {
+    above = monics (residue-nontrivial (square-large p large));
+    below = monics (residue-nontrivial large);
+    bar-monic = λ (e, m). (e, monic-map ((coefficients p large) .hom) m);
+  }
+
+  -- ---- the parts over some powers, and their product F
+
+  module _ (Ps : List Power) (h : All (Known p prime mf) Ps) (order : claims.InOrder Ps) {e : ℕ} {F : spec.Poly} (mF : MonicList (p *ℕ p) e F)
+      (law : spec.product (p *ℕ p) (map (primary p f) Ps) ≡ F) where
+    abbrev Q : List (Part (extension p large))
+    Q = ring-parts p prime mf Ps h
+
+    apart : Apart (extension p large) Q
+    apart = parts-apart p prime mf Ps h order
+
+    whole-F : whole (extension p large) Q ≡ poly (p *ℕ p) F
+    whole-F =
+        whole-is p prime mf Ps h ∙ ap (product 𝓐) (sym (map-map (poly (p *ℕ p)) (primary p f) Ps))
+        ∙ sym (poly-product (p *ℕ p) positive (map (primary p f) Ps)) ∙ ap (poly (p *ℕ p)) law
+
+    -- a list that multiplies to F
+    factors-F : {M : List spec.Poly} → claims.Factorisation (p *ℕ p) F M → FactorList (extension p large) Q (map (poly (p *ℕ p)) M)
+    factors-F {M} l = record {
+      factors = sym (poly-product (p *ℕ p) positive M) ∙ ap (poly (p *ℕ p)) (l .multiplies) ∙ sym whole-F;
+      proper = all-map (Proper (extension p large)) (poly (p *ℕ p)) M (λ q i. proper q (l .monic q i));
+    }
+
+    -- the list of the definitions
+    abbrev L : List spec.Poly
+    L = list-over p prime mf Ps
+
+    L-monic : All (claims.Monic (p *ℕ p)) L
+    L-monic = list-monic p prime mf Ps h
+
+    L-multiplies : spec.product (p *ℕ p) L ≡ F
+    L-multiplies =
+        let (k, m) = monic-list-product (square-large p large) L (λ q i. (spec.degree q, is-monic (L-monic q i))) in
+        monic-same (monic-degree (residue-nontrivial (square-large p large)) (monic-poly m) (rw same (monic-poly mF))) m mF same
+      where
+        same : poly (p *ℕ p) (spec.product (p *ℕ p) L) ≡ poly (p *ℕ p) F
+        same = poly-product (p *ℕ p) positive L ∙ list-product p prime mf Ps h ∙ whole-F
+
+    -- a list as long
+    longest-list : {M : List spec.Poly} → claims.Factorisation (p *ℕ p) F M → length M ≡ length L
+        → LongestList (extension p large) Q (map (poly (p *ℕ p)) M)
+    longest-list {M} l n = record { list = factors-F l; full = length-map M (poly (p *ℕ p)) ∙ n ∙ list-size p prime mf Ps h }
+
+    few-different : (M : List spec.Poly) → claims.Factorisation (p *ℕ p) F M → length M ≡ length L → different L ≤ different M
+    few-different M l n =
+        omega (
+          arith,
+          list-different p prime mf Ps h,
+          different-at-least (extension p large) monic-map-of apart (longest-list l n)
+              (all-map IsMonic (poly (p *ℕ p)) M (λ q i. (spec.degree q, monic-poly (is-monic (l .monic q i)))))
+              (monic-parts p prime mf Ps h) (decide (p *ℕ p)),
+          different-polys (p *ℕ p) M (λ a b i j. same-monic a b (l .monic a i) (l .monic b j)),
+        )
+
+    pub longest-over : claims.Longest (p *ℕ p) F (list-over p prime mf Ps) (length (list-over p prime mf Ps)) (different (list-over p prime mf Ps))
+    longest-over = record {
+      multiplies = L-multiplies;
+      total = refl;
+      differentTotal = refl;
+      irreducible = λ q i. record {
+        monic = L-monic q i;
+        noProduct = λ a b m n k.
+            no-product (extension p large) apart (longest-list (record { monic = L-monic; multiplies = L-multiplies }) refl)
+            (poly (p *ℕ p) q) (Memᴰ·map (poly (p *ℕ p)) i) (poly (p *ℕ p) a) (poly (p *ℕ p) b) (proper a m) (proper b n)
+            (ap (poly (p *ℕ p)) (sym k) ∙ poly-mul (p *ℕ p) positive a b);
+      };
+      longest = λ M l. omega (arith, length-at-most (extension p large) apart (factors-F l), length-map M (poly (p *ℕ p)), list-size p prime mf Ps h);
+      fewest = few-different;
+    }
+
+  -- ---- all parts, and one
+
+  pub longest : claims.Longest (p *ℕ p) f (listOf (partsOf p f)) (total (partsOf p f)) (different (listOf (partsOf p f)))
+  unfolding partsOf
+  longest = longest-over (powers p f) (known p prime mf) (powers-are p prime mf .inOrder) mf (items p prime mf .partsMultiply)
+
+  pub part-longest : (P : Power) → P ∈ powers p f
+      → claims.Longest (p *ℕ p) (primary p f P) (members (partOf p f P)) (length (members (partOf p f P))) (different (members (partOf p f P)))
+  part-longest P i =
+      let k = known p prime mf P i in
+      subst (λ (l : List spec.Poly). claims.Longest (p *ℕ p) (primary p f P) l (length l) (different l)) alone
+      (longest-over (P ∷ []) (all-cons k (λ Q j. elim j [ ])) ((λ Q j. elim j [ ]), tt) (k .over .monic) one)
+    where
+      alone : list-over p prime mf (P ∷ []) ≡ members (partOf p f P)
+      alone = unfold listOf flatMap in append-nil (members (partOf p f P))
+
+      one : spec.product (p *ℕ p) (primary p f P ∷ []) ≡ primary p f P
+      one =
+          let m = known p prime mf P i .over .monic in
+          let D : ℕ = P .exponent *ℕ spec.degree (P .base) in
+          let once : MonicList (p *ℕ p) (D +ℕ 0) (spec.product (p *ℕ p) (primary p f P ∷ [])) =
+          unfold spec.product in monic-list-mul (square-large p large) m (monic-list-one (square-large p large)) in
+          monic-same (let s : D +ℕ 0 ≡ D = omega arith in s) once m
+          (poly-product (p *ℕ p) positive (primary p f P ∷ []) ∙ product-cons 𝓐 _ _ ∙ ap (λ a. poly (p *ℕ p) (primary p f P) · a) (product-nil 𝓐)
+          ∙ mul-one 𝓐 (poly (p *ℕ p) (primary p f P)))

@@ -1,0 +1,136 @@
+-- Lists modulo p² and their bars: the specification's `reduce p` and `lift p` are reduction and lift of polynomials over ℤ/p² → ℤ/p.
+-- Proves that the lifts of a monic list q are exactly the monic lists modulo p² whose bar is q. Assumes nothing.
+use mathlib.Core.Path.{_≡_, refl, sym, _∙_, ap, ap₂, subst}
+use mathlib.Core.List.{List, [], _∷_, map, Memᴰ·of-map, Memᴰ·map, Memᴰ·cast}
+use mathlib.Core.Logic.{⊎-elim}
+use Prim.Native.Nat.{ℕ, zero, suc, _≤_, _<_, _%_, _/_, _+_ as _+ℕ_, _*_ as _*ℕ_}
+use native.Mathlib.Nat.{mod-add-div, mul-le-mul-left, div-eq-of-lt, zero-div, div-lt-iff-lt-mul, eq-or-lt-of-le}
+use native.Mathlib.Omega.{arith}
+use lib.ListN.{length, getD, take, length-map, length-take, List·getD-eq-default}
+use lib.Seq.{getD-take, length-take-le}
+use Rattle.specification.specs.Polynomials as spec
+use Rattle.specification.specs.Powers.{lifts, polynomials}
+use Rattle.algebra.specs.Numbers.{lt-or-le}
+use Rattle.algebra.specs.Ring.{CommRing, add-zero, zero-mul}
+use Rattle.algebra.specs.Residues.{ℤ/, residue, Residues, residue-zero, residue-add, residue-mul, residue-self}
+use Rattle.algebra.specs.Polynomials.{PolyRing, _+_, _·_, 𝟎, constant, constant-zero, poly-ext, coef-add, coef-constant-mul}
+use Rattle.algebra.specs.Degree.{Below, Monic, below-up, below-constant-mul, monic-add}
+use Rattle.algebra.specs.Homomorphisms.{map-poly, coef-map, map-homomorphism, map-constant}
+use Rattle.algebra.specs.Extension.{Extension, bar, bar-residue, residue-extension, poly-extension, square-pos}
+use Rattle.algebra.specs.CoefficientLists.{ℤ[x]/, poly, Reduced, coef-poly, below-poly, poly-add, poly-scale, poly-reduce, same-list}
+use Rattle.algebra.specs.ListShapes.{length-add, length-reduce, length-scale, low-reduce, getD-map, getD-reduce}
+use Rattle.factorisation.specs.Members.{_∈_}
+use Rattle.theorems.specs.MonicLists.{MonicList, monic-poly, monic-reduced, monic-same}
+use Rattle.theorems.specs.Enumeration.{polynomials-member, polynomials-has}
+
+module _ (p : ℕ) (large : 1 < p) where
+  -- ℤ/p² → ℤ/p
+  abbrev pub coefficients : Extension (Residues (p *ℕ p)) (Residues p) (bar p)
+  coefficients = residue-extension p (omega arith)
+
+  -- "a bar means reduction modulo p"
+  abbrev pub barred : ℤ[x]/ (p *ℕ p) → ℤ[x]/ p
+  barred = map-poly (coefficients .hom)
+
+  pub bar-poly : (f : List ℕ) → barred (poly (p *ℕ p) f) ≡ poly p f
+  bar-poly f = poly-ext (λ k. coef-map (coefficients .hom) (poly (p *ℕ p) f) k ∙ ap (bar p) (coef-poly (p *ℕ p) f k) ∙ bar-residue p (omega arith) (getD f k 0) ∙ sym (coef-poly p f k))
+
+  large² : 1 < p *ℕ p
+  large² = omega (arith, mul-le-mul-left p (let l : 1 ≤ p = omega arith in l))
+
+  -- digits below p read modulo p²
+  pub digits-monic : {d : ℕ} {q : spec.Poly} → MonicList p d q → MonicList (p *ℕ p) d q
+  digits-monic m = record {
+    reduced = record { len = m .reduced .len; low = λ k. omega (arith, m .reduced .low k, mul-le-mul-left p (let l : 1 ≤ p = omega arith in l)) };
+    leads = m .leads;
+  }
+
+  -- p, as a constant polynomial
+  abbrev pub π : ℤ[x]/ (p *ℕ p)
+  π = constant (residue (p *ℕ p) p)
+
+  pub poly-lift : (q t : spec.Poly) → poly (p *ℕ p) (spec.lift p q t) ≡ poly (p *ℕ p) q + π · poly (p *ℕ p) t
+  unfolding spec.lift
+  poly-lift q t =
+      poly-add (p *ℕ p) (omega (arith, large²)) q (spec.scale (p *ℕ p) p t)
+      ∙ ap (λ a. poly (p *ℕ p) q + a) (poly-scale (p *ℕ p) (omega (arith, large²)) p t)
+
+  pub bar-π-mul : (a : ℤ[x]/ (p *ℕ p)) → barred (π · a) ≡ 𝟎
+  bar-π-mul a =
+      (map-homomorphism (coefficients .hom)) .keeps-mul π a
+      ∙ ap (λ b. b · barred a) (map-constant (coefficients .hom) (residue (p *ℕ p) p) ∙ ap constant (bar-residue p (omega arith) p ∙ residue-self p (omega arith)) ∙ constant-zero (Residues p))
+      ∙ zero-mul (PolyRing (Residues p)) (barred a)
+
+  bar-lifted : (q t : spec.Poly) → poly p (spec.lift p q t) ≡ poly p q
+  bar-lifted q t =
+      sym (bar-poly (spec.lift p q t)) ∙ ap barred (poly-lift q t)
+      ∙ (map-homomorphism (coefficients .hom)) .keeps-add (poly (p *ℕ p) q) (π · poly (p *ℕ p) t)
+      ∙ ap₂ _+_ (bar-poly q) (bar-π-mul (poly (p *ℕ p) t)) ∙ add-zero (PolyRing (Residues p)) (poly p q)
+
+  module _ {d : ℕ} {q : spec.Poly} (m : MonicList p d q) where
+    pub lift-monic : (t : spec.Poly) → length t ≤ d → MonicList (p *ℕ p) d (spec.lift p q t)
+    lift-monic t l =
+        monic-reduced large²
+        (record { len = unfold spec.lift in length-add (p *ℕ p) q (spec.scale (p *ℕ p) p t) (omega (arith, length-scale (p *ℕ p) p t, m .reduced .len)) ∙ m .reduced .len; low = unfold spec.lift spec.add in low-reduce (p *ℕ p) (omega (arith, large²)) _ })
+        (subst (Monic d) (sym (poly-lift q t)) (monic-add (monic-poly (digits-monic m)) (below-constant-mul (residue (p *ℕ p) p) (below-up l (below-poly (p *ℕ p) t)))))
+
+    pub lift-bar : (t : spec.Poly) → length t ≤ d → spec.reduce p (spec.lift p q t) ≡ q
+    lift-bar t l =
+        same-list
+        (record { len = length-reduce p (spec.lift p q t) ∙ lift-monic t l .reduced .len; low = low-reduce p (omega arith) (spec.lift p q t) })
+        (m .reduced) (poly-reduce p (omega arith) (spec.lift p q t) ∙ bar-lifted q t)
+
+    -- what stands above the digits
+    abbrev above : spec.Poly → spec.Poly
+    above f = take d (map (λ (a : ℕ). a / p) f)
+
+    high : (f : spec.Poly) → MonicList (p *ℕ p) d f → (k : ℕ) → getD (above f) k 0 ≡ getD f k 0 / p
+    high f mf k = ⊎-elim (λ l. getD-take d _ k 0 l ∙ whole) (λ l. past l ∙ sym (div-eq-of-lt (small l))) (lt-or-le k d)
+      where
+        whole : getD (map (λ (a : ℕ). a / p) f) k 0 ≡ getD f k 0 / p
+        whole = getD-map (λ (a : ℕ). a / p) (zero-div p) f k
+
+        past : d ≤ k → getD (above f) k 0 ≡ 0
+        past l = List·getD-eq-default (above f) 0 {n = k} (omega (arith, length-take d (map (λ (a : ℕ). a / p) f)))
+
+        small : d ≤ k → getD f k 0 < p
+        small l =
+            ⊎-elim (λ e. subst (λ i. getD f i 0 < p) e (subst (λ v. v < p) (sym (mf .leads)) large))
+            (λ g. subst (λ v. v < p) (sym (List·getD-eq-default f 0 {n = k} (omega (arith, mf .reduced .len)))) (omega arith)) (eq-or-lt-of-le l)
+
+    -- f = q + p·above f, where q is the bar of f
+    lifted-again : (f : spec.Poly) → MonicList (p *ℕ p) d f → spec.reduce p f ≡ q → spec.lift p q (above f) ≡ f
+    lifted-again f mf e = monic-same refl (lift-monic (above f) (omega (arith, length-take d (map (λ (a : ℕ). a / p) f)))) mf (poly-lift q (above f) ∙ poly-ext at)
+      where
+        digit : (k : ℕ) → getD q k 0 ≡ getD f k 0 % p
+        digit k = ap (λ g. getD g k 0) (sym e) ∙ getD-reduce p f k
+
+        at : (k : ℕ) → (poly (p *ℕ p) q + π · poly (p *ℕ p) (above f)) .coef k ≡ (poly (p *ℕ p) f) .coef k
+        at k =
+            coef-add (poly (p *ℕ p) q) (π · poly (p *ℕ p) (above f)) k
+            ∙ ap₂ ((Residues (p *ℕ p)) .add) (coef-poly (p *ℕ p) q k ∙ ap (residue (p *ℕ p)) (digit k))
+            (coef-constant-mul (residue (p *ℕ p) p) (poly (p *ℕ p) (above f)) k
+            ∙ ap ((Residues (p *ℕ p)) .mul (residue (p *ℕ p) p)) (coef-poly (p *ℕ p) (above f) k ∙ ap (residue (p *ℕ p)) (high f mf k))
+            ∙ sym (residue-mul (p *ℕ p) p (getD f k 0 / p)))
+            ∙ sym (residue-add (p *ℕ p) (getD f k 0 % p) (p *ℕ (getD f k 0 / p)))
+            ∙ ap (residue (p *ℕ p)) (mod-add-div (getD f k 0) p) ∙ sym (coef-poly (p *ℕ p) f k)
+
+    pub lifts-member : {f : spec.Poly} → f ∈ lifts p q → MonicList (p *ℕ p) d f × (spec.reduce p f ≡ q)
+    unfolding lifts
+    lifts-member i =
+        let (t, j, e) = Memᴰ·of-map (spec.lift p q) (polynomials p (spec.degree q)) i in
+        let r = polynomials-member p (omega arith) (spec.degree q) j in
+        let l : length t ≤ d = omega (arith, r .len, m .reduced .len) in
+        (subst (MonicList (p *ℕ p) d) e (lift-monic t l), ap (spec.reduce p) (sym e) ∙ lift-bar t l)
+
+    pub lifts-has : (f : spec.Poly) → MonicList (p *ℕ p) d f → spec.reduce p f ≡ q → f ∈ lifts p q
+    unfolding lifts
+    lifts-has f mf e =
+        Memᴰ·cast (sym (lifted-again f mf e))
+        (Memᴰ·map (spec.lift p q) (polynomials-has p (omega arith) (spec.degree q) (above f) digits))
+      where
+        digits : Reduced p (spec.degree q) (above f)
+        digits = record {
+          len = length-take-le d _ (omega (arith, length-map f (λ (a : ℕ). a / p), mf .reduced .len)) ∙ omega (arith, m .reduced .len);
+          low = λ k. subst (λ v. v < p) (sym (high f mf k)) (div-lt-iff-lt-mul (omega arith) .1 (mf .reduced .low k));
+        }

@@ -1,0 +1,163 @@
+-- What the factors of a primary part give: a part of the theory of longest lists, and the shape of the list that is written.
+-- Proves it of one factor, and of two, from what their powers multiply to. Assumes nothing.
+use mathlib.Core.Path.{_≡_, refl, sym, _∙_, ap, ap₂, subst}
+use mathlib.Core.List.{List, [], _∷_, map, flatMap}
+use mathlib.Core.List.{List·Memᴰ·head as here, List·Memᴰ·tail as there}
+use mathlib.Core.Logic.{_⊎_, inl, inr}
+use lib.ListN.{length}
+use Prim.Native.Nat.{ℕ, suc, _≤_, _<_, _-_, _+_ as _+ℕ_, _*_ as _*ℕ_}
+use native.Mathlib.Nat.{mul-le-mul-left, mul-le-mul-right}
+use native.Mathlib.Decide.{decLe}
+use native.Mathlib.Omega.{arith}
+use Rattle.specification.specs.Polynomials as spec
+use Rattle.specification.specs.Parts.{Factor, factor}
+use Rattle.specification.specs.Totals.{copies, different}
+use Rattle.specification.specs.Claims as claims
+use Rattle.algebra.specs.Ring.{CommRing, mul-one}
+use Rattle.algebra.specs.Divisibility.{_∣_, pow, pow-one, product, product-nil, product-cons}
+use Rattle.algebra.specs.Residues.{Residues}
+use Rattle.algebra.specs.Polynomials.{PolyRing, _·_, 𝟎}
+use Rattle.algebra.specs.Fields.{Prime, residue-nontrivial}
+use Rattle.algebra.specs.CoefficientLists.{ℤ[x]/, poly}
+use Rattle.factorisation.specs.Members.{_∈_, All, all-cons}
+use Rattle.factorisation.specs.Sums.{total, total-nil, total-cons}
+use Rattle.factorisation.specs.ExtensionLaws.{number}
+use Rattle.factorisation.specs.MonicDivisors.{monic-degree}
+use Rattle.factorisation.specs.LongestLists.{Part, Split}
+use Rattle.theorems.specs.MonicLists.{monic-poly, monic-same}
+use Rattle.theorems.specs.Reductions.{barred, bar-poly}
+use Rattle.theorems.specs.Irreducibles.{prime-poly}
+use Rattle.theorems.specs.DifferentMembers.{different-factors}
+use Rattle.theorems.specs.Factors.{degrees, repeats, length-members, members-monic, powered, poly-members}
+use Rattle.theorems.specs.ListExtension.{square-large, extension}
+use Rattle.theorems.specs.PartForm.{PartOver, PowerDivides, h, shape, bar-h}
+
+-- one factor, or two, the first of the degree of G
+abbrev pub OneOrTwo : spec.Poly → List Factor → Type 0
+OneOrTwo G qs =
+    ((q : Factor) × (qs ≡ q ∷ [])) ⊎ ((q : Factor) × (r : Factor) × (qs ≡ q ∷ r ∷ []) × (spec.degree (q .poly) ≡ spec.degree G))
+
+-- the factors qs of a part over G to the m
+pub record SplitPart (p : ℕ) (large : 1 < p) (G : spec.Poly) (m : ℕ) (part : spec.Poly) (qs : List Factor) : Type 0 where
+  pub monic : (q : Factor) → q ∈ qs → claims.Monic (p *ℕ p) (q .poly)
+  pub repeated : (q : Factor) → q ∈ qs → 1 ≤ q .times
+  pub multiplies : spec.product (p *ℕ p) (flatMap copies qs) ≡ part
+  pub degree-sum : degrees qs ≡ m *ℕ spec.degree G
+  pub one-or-two : OneOrTwo G qs
+  pub not-lower : (q : Factor) → q ∈ qs → spec.degree G ≤ spec.degree (q .poly)
+  -- the part as the theory of longest lists has it, for as many factors as are written and no more different ones
+  pub ring : Part (extension p large)
+  pub g-is : ring .g ≡ poly (p *ℕ p) G
+  pub m-is : ring .m ≡ m
+  pub P-is : ring .P ≡ poly (p *ℕ p) part
+  pub s-is : ring .s ≡ length (flatMap copies qs)
+  -- s members need not more than m, nor a higher power of G in h bar than there is
+  pub room : ring .s ≤ m
+  pub divides : _∣_ (PolyRing (Residues p)) (pow (PolyRing (Residues p)) (poly p G) (ring .s - 1)) (barred p large (ring .h))
+  pub few : different (flatMap copies qs) ≤ ring .z
+
+-- where the repeats are m at most, a factor of lower degree than G would leave the degrees' sum too small
+lowest : (d e t u m : ℕ) → 1 ≤ t → t +ℕ u ≤ m → e *ℕ t +ℕ d *ℕ u ≡ m *ℕ d → d ≤ e
+lowest d e t u m one few sum = go (decLe d e)
+  where
+    go : Dec (d ≤ e) → d ≤ e
+    go (yes l) = l
+    go (no n) = absurd (omega (arith, mul-le-mul-right t (let s : suc e ≤ d = omega arith in s), mul-le-mul-left d few))
+
+none-lower : (G : spec.Poly) (m : ℕ) (qs : List Factor) → OneOrTwo G qs → degrees qs ≡ m *ℕ spec.degree G → repeats qs ≤ m
+    → All (λ (q : Factor). 1 ≤ q .times) qs → All (λ (q : Factor). spec.degree G ≤ spec.degree (q .poly)) qs
+unfolding total
+none-lower G m qs (inl (q, e)) sum few one =
+    rw e (all-cons
+    (lowest (spec.degree G) (spec.degree (q .poly)) (q .times) 0 m (one q (rw e (here refl))) (omega (arith, rw e at few)) (omega (arith, rw e at sum)))
+    (λ r i. elim i [ ]))
+none-lower G m qs (inr (q, r, e, same)) sum few one =
+    rw e (all-cons (omega arith) (all-cons
+    (lowest (spec.degree G) (spec.degree (r .poly)) (r .times) (q .times) m (one r (rw e (there (here refl)))) (omega (arith, rw e at few))
+    (omega (arith, rw e at sum, ap (λ (k : ℕ). k *ℕ q .times) same)))
+    (λ r i. elim i [ ])))
+
+module _ {p : ℕ} (prime : Prime p) {G : spec.Poly} {m : ℕ} {part : spec.Poly} (over : PartOver p G m part) where
+  abbrev large : 1 < p
+  large = prime .large
+
+  abbrev 𝓐 : CommRing (ℤ[x]/ (p *ℕ p))
+  𝓐 = PolyRing (Residues (p *ℕ p))
+
+  abbrev 𝓑 : CommRing (ℤ[x]/ p)
+  𝓑 = PolyRing (Residues p)
+
+  -- s factors, z different ones: no list has more, and no list of s has fewer different ones
+  module _ (s z : ℕ) (one : 1 ≤ s) (room : s ≤ m) (divides : PowerDivides large over (s - 1)) (longest : (m ≤ s) ⊎ ¬ PowerDivides large over s)
+      (fewest : (z ≤ 1) ⊎ ((z ≤ 2) × Split (extension p large) (poly (p *ℕ p) G) (h large over) m s)) where
+    abbrev ring-part : Part (extension p large)
+    ring-part = record {
+      g = poly (p *ℕ p) G;
+      prime = rw (bar-poly p large G) (prime-poly prime (over .irreducible));
+      m = m;
+      P = poly (p *ℕ p) part;
+      h = h large over;
+      shape = shape large over;
+      s = s;
+      one = one;
+      longest = rw (bar-poly p large G, bar-h large over) longest;
+      z = z;
+      few = fewest;
+    }
+
+    split-from : (qs : List Factor) → All (λ (q : Factor). claims.Monic (p *ℕ p) (q .poly)) qs → All (λ (q : Factor). 1 ≤ q .times) qs
+        → product 𝓐 (map (powered (p *ℕ p)) qs) ≡ poly (p *ℕ p) part
+        → OneOrTwo G qs → repeats qs ≡ s → length qs ≡ z → SplitPart p large G m part qs
+    split-from qs monic repeated law shape count kinds = record {
+      monic = monic;
+      repeated = repeated;
+      multiplies = monic-same sum (members-monic (square-large p large) qs monic) (over .monic) (poly-members (square-large p large) qs ∙ law);
+      degree-sum = sum;
+      one-or-two = shape;
+      not-lower = none-lower G m qs shape sum (omega (arith, count, room)) repeated;
+      ring = ring-part;
+      g-is = refl;
+      m-is = refl;
+      P-is = refl;
+      s-is = sym (length-members qs ∙ count);
+      room = room;
+      divides = rw (bar-h large over) divides;
+      few = omega (arith, different-factors qs, kinds);
+    }
+      where
+        sum : degrees qs ≡ m *ℕ spec.degree G
+        sum =
+            monic-degree (residue-nontrivial (square-large p large)) (monic-poly (members-monic (square-large p large) qs monic))
+            (rw (poly-members (square-large p large) qs, law) (monic-poly (over .monic)))
+
+  -- q, t times
+  pub one-factor : (q : spec.Poly) (t : ℕ) → claims.Monic (p *ℕ p) q → 1 ≤ t → t ≤ m → PowerDivides large over (t - 1) → (m ≤ t) ⊎ ¬ PowerDivides large over t
+      → pow 𝓐 (poly (p *ℕ p) q) t ≡ poly (p *ℕ p) part → SplitPart p large G m part (factor q t ∷ [])
+  one-factor q t monic l room divides longest law =
+      split-from t 1 l room divides longest (inl (omega arith)) (factor q t ∷ []) (all-cons monic (λ r i. elim i [ ])) (all-cons l (λ r i. elim i [ ]))
+      (product-cons 𝓐 _ []
+      ∙ ap₂ _·_ law (product-nil 𝓐) ∙ mul-one 𝓐 (poly (p *ℕ p) part))
+      (inl (factor q t, refl)) (omega (arith, total-cons (λ (r : Factor). r .times) (factor q t) [], total-nil (λ (r : Factor). r .times))) refl
+
+  -- q, t times, then r once
+  pub two-factors : (q r : spec.Poly) (t : ℕ) → claims.Monic (p *ℕ p) q → claims.Monic (p *ℕ p) r → 1 ≤ t → spec.degree q ≡ spec.degree G
+      → suc t ≤ m → PowerDivides large over t
+      → ¬ PowerDivides large over (suc t) → (suc t ≡ m → number 𝓑 m ≡ 𝟎) → pow 𝓐 (poly (p *ℕ p) q) t · poly (p *ℕ p) r ≡ poly (p *ℕ p) part
+      → SplitPart p large G m part (factor q t ∷ factor r 1 ∷ [])
+  two-factors q r t monicq monicr l degree room divides exact null law =
+      split-from (suc t) 2 (omega arith) room (subst (PowerDivides large over) (let s : t ≡ suc t - 1 = omega arith in s) divides) (inr exact)
+      (inr (omega arith, record { two = omega arith; exact = rw (bar-poly p large G, bar-h large over) exact; null = null }))
+      (factor q t ∷ factor r 1 ∷ [])
+      (all-cons monicq (all-cons monicr (λ a i. elim i [ ]))) (all-cons l (all-cons (omega arith) (λ a i. elim i [ ])))
+      (product-cons 𝓐 (pow 𝓐 (poly (p *ℕ p) q) t) _
+      ∙ ap (λ a. pow 𝓐 (poly (p *ℕ p) q) t · a)
+      (product-cons 𝓐 (pow 𝓐 (poly (p *ℕ p) r) 1) []
+      ∙ ap₂ _·_ (pow-one 𝓐 (poly (p *ℕ p) r)) (product-nil 𝓐) ∙ mul-one 𝓐 (poly (p *ℕ p) r))
+      ∙ law)
+      (inr (factor q t, factor r 1, refl, degree))
+      (omega (
+        arith,
+        total-cons (λ (a : Factor). a .times) (factor q t) (factor r 1 ∷ []),
+        total-cons (λ (a : Factor). a .times) (factor r 1) [],
+        total-nil (λ (a : Factor). a .times),
+      )) refl

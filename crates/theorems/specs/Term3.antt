@@ -1,0 +1,177 @@
+-- The promises of documents 00 and 01 about every accepted sheet, as the claims of `specification` state them: term 3 of the answer's bytes and
+-- of a call, items 1 to 3, the degrees, the answer's size and bytes, and the reader. Assumes nothing.
+use mathlib.Core.Path.{_≡_, refl, sym, _∙_, ap, subst}
+use mathlib.Core.Logic.{_↔_}
+use mathlib.Core.List.{List, [], _∷_}
+use mathlib.Core.List.{List·Memᴰ·head as here, List·Memᴰ·tail as there}
+use Prim.Native.Nat.{ℕ, _≤_, _<_, _*_}
+use native.Mathlib.Omega.{arith}
+use lib.ListN.{length, take, drop}
+use lib.Seq.{take-append-seam}
+use Rattle.specification.specs.Limits.{degreeLimit, answerArea}
+use Rattle.specification.specs.Polynomials.{Poly, degree, product}
+use Rattle.specification.specs.Powers.{powers}
+use Rattle.specification.specs.Parts.{Part, partOf, partsOf}
+use Rattle.specification.specs.Sheets.{Sheet, accepted, readSheet, sheetBytes}
+use Rattle.specification.specs.Answers.{answer}
+use Rattle.specification.specs.FactorList.{factorList}
+use Rattle.specification.specs.Calls.{Outcome, success, splitCall, readCall, count, areaAfter}
+use Rattle.specification.specs.Claims as claims
+use Rattle.specification.specs.Promises as promises
+use Rattle.algebra.specs.Fields.{Prime, taken-prime}
+use Rattle.factorisation.specs.Members.{_∈_, All, all-map}
+use Rattle.theorems.specs.MonicLists.{MonicList, from-claims, monic-list-mul}
+use Rattle.theorems.specs.MonicDivision.{monic-list-one}
+use Rattle.theorems.specs.Items.{items}
+use Rattle.theorems.specs.ListExtension.{square-large}
+use Rattle.theorems.specs.SheetsRead.{read-is-good, read-is-written}
+use Rattle.theorems.specs.SheetsBothWays.{accepted-exactly}
+use Rattle.theorems.specs.SheetLength.{fault-place, long-refused}
+use Rattle.theorems.specs.AnswerLayout.{sheetParts}
+use Rattle.theorems.specs.AnswerReadBack.{MonicFactors, longest-in}
+use Rattle.theorems.specs.PartShapes.{PartShape, partDegrees}
+use Rattle.theorems.specs.AnswerSize.{answer-fits, answer-is-bytes}
+use Rattle.theorems.specs.Reader as reader
+use Rattle.theorems.specs.Reader.{split-written}
+use Rattle.theorems.specs.AllParts.{Known, known, parts-monic}
+use Rattle.theorems.specs.LongestHolds.{longest, part-longest}
+
+module _ (s : Sheet) (g : promises.GoodSheet s) where
+  abbrev p : ℕ
+  p = s .prime
+
+  prime : Prime p
+  prime = taken-prime p (g .prime)
+
+  monic : MonicList (p * p) (degree (s .poly)) (s .poly)
+  monic = from-claims (omega (arith, square-large p (prime .large))) (g .monic)
+
+  -- what holds of the part over each power
+  all-parts : (C : Part → Type 0) → ((P : _) → Known p prime monic P → C (partOf p (s .poly) P)) → All C (sheetParts s)
+  unfolding partsOf
+  all-parts C h = all-map C (partOf p (s .poly)) (powers p (s .poly)) (λ P i. h P (known p prime monic P i))
+
+  monic-factors : MonicFactors (p * p) (sheetParts s)
+  monic-factors = all-parts _ (λ P k. k .split .monic)
+
+  shapes : All (PartShape (p * p)) (sheetParts s)
+  shapes =
+      all-parts (PartShape (p * p))
+      (λ P k. record {
+        base = k .over .irreducible .monic .positive;
+        exponent = k .over .positive;
+        factors = λ q i. record { monic = k .split .monic q i; notLower = k .split .not-lower q i; repeated = k .split .repeated q i };
+        degrees = omega (arith, k .split .degree-sum);
+      })
+
+  -- the parts' degrees add up to the degree of f
+  parts-degrees : partDegrees (sheetParts s) ≡ degree (s .poly)
+  unfolding partsOf
+  parts-degrees =
+      omega (
+        arith,
+        parts-monic p prime monic (powers p (s .poly)) (known p prime monic) .reduced .len,
+        ap length (items p prime monic .partsMultiply),
+        monic .reduced .len,
+      )
+
+  answer-longest : claims.LongestIn s (answer s)
+  answer-longest = longest-in s monic-factors (longest p prime monic)
+
+  fits : promises.Fits (answer s)
+  fits =
+      let low : partDegrees (sheetParts s) ≤ degreeLimit = omega (arith, parts-degrees, g .fits) in
+      record { short = answer-fits s shapes low; low = answer-is-bytes s shapes low g }
+
+-- ---- terms 2 and 3
+
+-- "a single claim about the whole list of f, over all accepted sheets and all lists set against it"
+pub term-3 : claims.Term3
+term-3 bytes s e = answer-longest s (read-is-good bytes s e)
+
+-- the call finds the answer
+split-accepted : (area : ℕ) → answerArea ≤ area → (bytes : List ℕ) (s : Sheet) → readSheet bytes ≡ accepted s → splitCall area bytes ≡ success (answer s)
+split-accepted area l bytes s e = ap (splitCall area) (read-is-written bytes s e) ∙ split-written area l s (read-is-good bytes s e)
+
+pub term-3-call : claims.Term3Call
+term-3-call area bytes s l e = subst (claims.LongestIn s) (sym written) (term-3 bytes s e)
+  where
+    written : take (count (splitCall (length area) bytes)) (areaAfter (splitCall (length area) bytes) area) ≡ answer s
+    written =
+        ap (λ (o : Outcome). take (count o) (areaAfter o area)) (split-accepted (length area) l bytes s e)
+        ∙ take-append-seam (answer s) (drop (length (answer s)) area)
+
+-- ---- items 1 to 9
+
+pub items-1-to-3 : claims.Items1to3
+items-1-to-3 bytes s e = let g = read-is-good bytes s e in items (s .prime) (prime s g) (monic s g)
+
+pub items-4-to-9 : claims.Items4to9
+items-4-to-9 bytes s e P i =
+    let g = read-is-good bytes s e in
+    record {
+      longest = part-longest (s .prime) (prime s g) (monic s g) P i;
+      repeated = known (s .prime) (prime s g) (monic s g) P i .split .repeated;
+    }
+
+-- the degree of a product of monic polynomials
+product-degree : {n : ℕ} → 1 < n → (L : List Poly) → ((q : Poly) → q ∈ L → claims.Monic n q) → MonicList n (claims.degreeSum L) (product n L)
+unfolding claims.degreeSum product
+product-degree large [] h = monic-list-one large
+product-degree large (q ∷ L) h =
+    monic-list-mul large (from-claims (omega arith) (h q (here refl))) (product-degree large L (λ r i. h r (there i)))
+
+pub degrees-add-up : claims.DegreesAddUp
+degrees-add-up bytes s e =
+    let g = read-is-good bytes s e in
+    let t = term-3 bytes s e in
+    omega (
+      arith,
+      product-degree (square-large (s .prime) (prime s g .large)) (factorList (answer s)) (λ q i. t .irreducible q i .monic) .reduced .len,
+      ap length (t .multiplies),
+      monic s g .reduced .len,
+    )
+
+-- ---- answers and sheets
+
+pub answers-fit : promises.AnswersFit
+answers-fit bytes s e = fits s (read-is-good bytes s e)
+
+pub sheets-taken : promises.SheetsTaken
+sheets-taken = accepted-exactly
+
+pub long-inputs : promises.LongInputs
+long-inputs bytes l =
+    let (k, at, e) = long-refused bytes l in
+    record { number = k; place = at; refusal = e; within = fault-place bytes k at e .0 }
+
+-- ---- the answer reader
+
+multiplies : (s : Sheet) → promises.GoodSheet s → product (s .prime * s .prime) (factorList (answer s)) ≡ s .poly
+multiplies s g = answer-longest s g .multiplies
+
+-- the two ways to say that b is the answer to the sheet t
+answer-to : {b t : List ℕ} → reader.Answered b t ↔ promises.AnswerTo t b
+answer-to = (
+  (λ (s, g, e, w). (s, accepted-exactly _ s .1 (g, w), e)),
+  (λ (s, r, e). (s, accepted-exactly _ s .0 r .0, e, accepted-exactly _ s .0 r .1)),
+)
+
+pub reader-exact : promises.ReaderExact
+reader-exact area l b t =
+    let (to, from) = reader.reader-accepts-exactly multiplies area l b t in
+    ((λ e. answer-to .0 (to e)), (λ a. from (answer-to .1 a)))
+
+pub reader-refuses : promises.ReaderRefuses
+reader-refuses area l b =
+    let (to, from) = reader.reader-refuses-exactly multiplies area l b in (
+      (λ e t a. let (s, g, is-answer, w) = answer-to .1 a in to e s g is-answer),
+      (λ h. from (λ s g e. h (sheetBytes s) (answer-to .0 (s, g, e, refl)))),
+    )
+
+-- each call undoes the other
+pub read-then-split : (area : ℕ) (b t : List ℕ) → readCall area b ≡ success t → splitCall area t ≡ success b
+read-then-split = reader.read-then-split
+
+pub split-then-read : (area : ℕ) (b t : List ℕ) → splitCall area t ≡ success b → readCall area b ≡ success t
+split-then-read = reader.split-then-read multiplies

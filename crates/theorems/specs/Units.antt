@@ -1,0 +1,83 @@
+-- The numbers of ℤ/n[x], and division by one of them modulo a prime: item 8.
+-- Proves that a number is the constant of its class, so 𝟎 where n divides it, and that the specification's `inverse p m` times m leaves 1
+-- where the prime p does not divide m. Assumes nothing.
+use mathlib.Core.Path.{_≡_, sym, _∙_, ap, ap₂, subst}
+use mathlib.Core.Bool.{Bool}
+use mathlib.Core.Logic.{_≢_}
+use Prim.Native.Nat.{ℕ, zero, suc, _<_, _%_, zero-le, _+_ as _+ℕ_, _*_ as _*ℕ_}
+use native.Mathlib.Nat.{mod-eq-of-lt, zero-mod, mul-comm}
+use native.Mathlib.Omega.{arith}
+use lib.Dec.{T, eqb, eqb→eq}
+use Rattle.specification.specs.Lists.{upFrom, below}
+use Rattle.specification.specs.Polynomials as spec
+use Rattle.specification.specs.Inverses.{inverse}
+use Rattle.algebra.specs.Residues.{
+  ℤ/,
+  residue,
+  Residues,
+  residue-zero,
+  residue-one,
+  residue-add,
+  residue-mul,
+  residue-mod,
+  residue-value,
+  value-below,
+  same-remainder,
+}
+use Rattle.algebra.specs.Fields.{Prime, prime-pos, residue-field}
+use Rattle.algebra.specs.Polynomials.{PolyRing, _+_, _·_, 𝟎, constant, constant-zero, constant-one, constant-add, constant-mul}
+use Rattle.algebra.specs.CoefficientLists.{poly, poly-scale}
+use Rattle.algebra.specs.ListLaws.{first-passes, upFrom-has}
+use Rattle.factorisation.specs.ExtensionLaws.{number, number-zero, number-suc}
+
+module _ (n : ℕ) where
+  number-constant : (k : ℕ) → number (PolyRing (Residues n)) k ≡ constant (residue n k)
+  number-constant zero = number-zero (PolyRing (Residues n)) ∙ sym (ap constant (residue-zero n) ∙ constant-zero (Residues n))
+  number-constant (suc k) =
+      number-suc (PolyRing (Residues n)) k
+      ∙ ap₂ _+_ (sym (ap constant (residue-one n) ∙ constant-one (Residues n))) (number-constant k)
+      ∙ sym (constant-add (residue n 1) (residue n k))
+      ∙ ap constant (sym (residue-add n 1 k) ∙ ap (residue n) (let e : 1 +ℕ k ≡ suc k = omega arith in e))
+
+  pub number-multiple : 0 < n → (k : ℕ) → k % n ≡ 0 → number (PolyRing (Residues n)) k ≡ 𝟎
+  number-multiple pos k e =
+      number-constant k
+      ∙ ap constant (sym (residue-mod n pos k) ∙ ap (residue n) e ∙ residue-zero n) ∙ constant-zero (Residues n)
+
+module _ (p : ℕ) (prime : Prime p) (m : ℕ) (unit : m % p ≢ 0) where
+  leaves-one : ℕ → Bool
+  leaves-one b = eqb (b *ℕ m % p) 1
+
+  nonzero : residue p m ≢ (Residues p) .𝟘
+  nonzero e = unit (same-remainder p (prime-pos prime) m 0 (e ∙ sym (residue-zero p)) ∙ zero-mod p)
+
+  -- the field's inverse passes the test
+  inverse-passes : (b : ℤ/ p) → (Residues p) .mul (residue p m) b ≡ (Residues p) .𝟙 → b .value *ℕ m % p ≡ 1
+  inverse-passes b e =
+      same-remainder p (prime-pos prime) (b .value *ℕ m) 1
+      (ap (residue p) (mul-comm (b .value) m) ∙ residue-mul p m (b .value)
+      ∙ ap ((Residues p) .mul (residue p m)) (residue-value p b) ∙ e ∙ sym (residue-one p))
+      ∙ mod-eq-of-lt (prime .large)
+
+  inverse-leaves-one : inverse p m *ℕ m % p ≡ 1
+  unfolding inverse below leaves-one
+  inverse-leaves-one =
+      let (b, e) = residue-field p prime .inverse (residue p m) nonzero in
+      let l = value-below p (prime-pos prime) b in
+      eqb→eq (inverse p m *ℕ m % p) 1
+      (first-passes leaves-one 0 (upFrom 0 p) (upFrom-has 0 p zero-le (omega arith))
+      (subst (λ (k : ℕ). T (eqb k 1)) (sym (inverse-passes b e)) tt) .1)
+
+  -- item 8: "u = w/m modulo p"
+  pub number-divided : (w : spec.Poly) → number (PolyRing (Residues p)) m · poly p (spec.scale p (inverse p m) w) ≡ poly p w
+  number-divided w =
+      ap₂ _·_ (number-constant p m) (poly-scale p (prime-pos prime) (inverse p m) w)
+      ∙ sym ((PolyRing (Residues p)) .*-assoc (constant (residue p m)) (constant (residue p (inverse p m))) (poly p w))
+      ∙ ap (λ c. c · poly p w)
+      (sym (constant-mul (residue p m) (residue p (inverse p m))) ∙ ap constant one ∙ constant-one (Residues p))
+      ∙ (PolyRing (Residues p)) .*-one (poly p w)
+    where
+      one : (Residues p) .mul (residue p m) (residue p (inverse p m)) ≡ (Residues p) .𝟙
+      one =
+          sym (residue-mul p m (inverse p m)) ∙ ap (residue p) (mul-comm m (inverse p m))
+          ∙ sym (residue-mod p (prime-pos prime) (inverse p m *ℕ m)) ∙ ap (residue p) inverse-leaves-one ∙ residue-one p
