@@ -1,0 +1,16 @@
+-- `modular::difference` meets its contract.
+-- Assumes nothing.
+use native.Mathlib.Omega.{arith}
+use borrow.Author.Needs.{needs}
+use Rattle.modular.specs.Coefficients.{below-length}
+use Rattle.modular.specs.Sum.{difference-represented}
+use Rattle.modular.proofs.difference.Statement.{statement}
+use Rattle.modular.proofs.difference.Tie as tie
+
+pub difference-spec : {M : Type 1} → statement M
+difference-spec =
+    tie.close
+    (tie.spec
+    (λ c. omega (arith, c .pre .low 0))  -- sub-add-multiple
+    (λ c κs. (c .pre, below-length _ _ (search needs), search needs))  -- add-multiple-requires
+    (λ c. difference-represented _ _ _ _ (omega (arith, c .before .pre .low 0)) (c .add-multiple .ensures)))  -- returns

@@ -1,0 +1,14 @@
+-- `modular::sum` meets its contract.
+-- Assumes nothing.
+use borrow.Author.Needs.{needs}
+use Rattle.modular.specs.Coefficients.{below-length}
+use Rattle.modular.specs.Sum.{sum-represented}
+use Rattle.modular.proofs.sum.Statement.{statement}
+use Rattle.modular.proofs.sum.Tie as tie
+
+pub sum-spec : {M : Type 1} → statement M
+sum-spec =
+    tie.close
+    (tie.spec
+    (λ c κs. (c .pre, below-length _ _ (search needs), search needs))  -- add-multiple-requires
+    (λ c. sum-represented _ _ _ _ (c .add-multiple .ensures)))  -- returns

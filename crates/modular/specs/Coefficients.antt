@@ -1,0 +1,52 @@
+-- Arrays of 33 coefficients as polynomials over ℤ/n: `Represents n r p`, the array r holds the polynomial p; `Size a r`.
+-- Proves what the arrays of 0 and 1 represent, and that n − c stands for −c. Assumes nothing.
+use mathlib.Core.Path.{_≡_, _∙_, ap, ap₂}
+use mathlib.Core.List.{List, _∷_}
+use Prim.Native.Nat.{ℕ, _≤_, _<_, _-_}
+use lib.ListN.{length, getD, replicate, length-replicate}
+use Rattle.algebra.specs.Identities.{con, _⊕_, _⊗_, _≈_, solve}
+use Rattle.algebra.specs.Residues.{residue, Residues, residue-zero, residue-one, residue-neg}
+use Rattle.algebra.specs.Polynomials.{PolyRing, _+_, _·_, -_, 𝟎, 𝟏, x, constant, constant-one, constant-neg}
+use Rattle.algebra.specs.Degree.{Below, below-up, monic-one}
+use Rattle.algebra.specs.CoefficientLists.{ℤ[x]/, poly, Reduced, coef-poly, poly-cons, below-poly}
+use Rattle.algebra.specs.ListShapes.{getD-zeros}
+use Rattle.algebra.specs.ListDivision.{poly-zeros}
+
+-- r is the array of p: its 33 coefficients, each below n
+pub record Represents (n : ℕ) (r : List ℕ) (p : ℤ[x]/ n) : Type 0 where
+  pub reduced : Reduced n 33 r
+  pub is : poly n r ≡ p
+
+-- r is one more than the degree of a, and 0 for zero
+pub record Size (a : List ℕ) (r : ℕ) : Type 0 where
+  pub limit : r ≤ 33
+  pub above : (k : ℕ) → r ≤ k → getD a k 0 ≡ 0
+  pub top : 0 < r → getD a (r - 1) 0 ≡ 0 → ⊥
+
+module _ (n : ℕ) where
+  -- as many terms as the size says, modulo any number
+  pub below-size : {a : List ℕ} {r : ℕ} → Size a r → Below r (poly n a)
+  below-size {a} s = record { high = λ k l. coef-poly n a k ∙ ap (residue n) (s .above k l) ∙ residue-zero n }
+
+  pub below-length : (a : List ℕ) {m : ℕ} → length a ≤ m → Below m (poly n a)
+  below-length a l = below-up l (below-poly n a)
+
+  pub zeros : 0 < n → Represents n (replicate 33 0) 𝟎
+  zeros pos = record {
+    reduced = record { len = length-replicate {A = ℕ} 33 0; low = λ k. rw (getD-zeros 33 k) pos };
+    is = poly-zeros n 33;
+  }
+
+  pub constant-residue-one : constant {𝓡 = Residues n} (residue n 1) ≡ 𝟏
+  constant-residue-one = ap constant (residue-one n) ∙ constant-one (Residues n)
+
+  pub poly-unit : (k : ℕ) → poly n (1 ∷ replicate k 0) ≡ 𝟏
+  poly-unit k =
+      poly-cons n 1 (replicate k 0) ∙ ap₂ (λ c f. c + x · f) constant-residue-one (poly-zeros n k)
+      ∙ solve (PolyRing (Residues n)) 1 (λ x. con 1 ⊕ x ⊗ con 0 ≈ con 1) tt x
+
+  pub below-unit : (k : ℕ) → Below 1 (poly n (1 ∷ replicate k 0))
+  below-unit k = rw (poly-unit k) (monic-one .below)
+
+  pub constant-residue-neg : 0 < n → {c : ℕ} → c ≤ n → constant {𝓡 = Residues n} (residue n (n - c)) ≡ - constant (residue n c)
+  constant-residue-neg pos {c} l = ap constant (residue-neg n pos c l) ∙ constant-neg (residue n c)

@@ -1,0 +1,88 @@
+-- Division of arrays by a monic array: `DividedBy`, what holds of quotient and remainder; the loop of `divide`, which takes the
+-- highest term away turn by turn.
+-- Proves that the loop begins, goes on and ends as it should. Assumes nothing.
+use mathlib.Core.Path.{_≡_, _∙_, ap, ap₂}
+use mathlib.Core.List.{List, _∷_}
+use Prim.Native.Nat.{ℕ, suc, _≤_, _<_, _-_, _+_ as _+ℕ_}
+use native.Mathlib.Omega.{arith}
+use lib.ListN.{getD, replicate}
+use Rattle.algebra.specs.Ring.{neg-mul}
+use Rattle.algebra.specs.Identities.{con, _⊕_, _⊖_, _⊗_, _≈_, solve}
+use Rattle.algebra.specs.Residues.{residue, Residues}
+use Rattle.algebra.specs.Polynomials.{PolyRing, _+_, _·_, -_, 𝟏, constant}
+use Rattle.algebra.specs.Degree.{Below, Monic, below-up, monic-mul, monic-pow-x}
+use Rattle.algebra.specs.Division.{below-top}
+use Rattle.algebra.specs.CoefficientLists.{ℤ[x]/, poly, Reduced, coef-poly}
+use Rattle.modular.specs.Shift.{x^}
+use Rattle.modular.specs.Coefficients.{Represents, zeros, poly-unit, constant-residue-neg}
+
+-- q and r are the arrays of the quotient and of the remainder of a by b, which is of degree d
+pub record DividedBy (n : ℕ) (a b : List ℕ) (d : ℕ) (q r : List ℕ) : Type 0 where
+  pub quotient : Reduced n 33 q
+  pub remainder : Reduced n 33 r
+  pub law : poly n q · poly n b + poly n r ≡ poly n a
+  pub small : Below d (poly n r)
+
+-- what is left has i terms
+pub record PartialDivision (n : ℕ) (a b : List ℕ) (i : ℕ) (q w : List ℕ) : Type 0 where
+  pub limit : i ≤ 33
+  pub quotient : Reduced n 33 q
+  pub remainder : Reduced n 33 w
+  pub law : poly n q · poly n b + poly n w ≡ poly n a
+  pub small : Below i (poly n w)
+
+module _ (n : ℕ) (a b : List ℕ) where
+  pub division-none : {s : ℕ} → s ≤ 33 → Reduced n 33 a → Below s (poly n a) → PartialDivision n a b s (replicate 33 0) a
+  division-none l ha h = record {
+    limit = l;
+    quotient = (zeros n pos) .reduced;
+    remainder = ha;
+    law = ap (λ q. q · poly n b + poly n a) ((zeros n pos) .is)
+        ∙ solve (PolyRing (Residues n)) 2 (λ b a. con 0 ⊗ b ⊕ a ≈ a) tt (poly n b) (poly n a);
+    small = h;
+  }
+    where
+      pos : 0 < n
+      pos = omega (arith, ha .low 0)
+
+  -- c·x^k goes into the quotient and c·x^k·b away from what is left, where c is the coefficient j = k + d, the top one
+  module _ {d : ℕ} (monic : Monic d (poly n b)) (q w v u : List ℕ) (i j k : ℕ) (next : i ≡ suc j) (degrees : j ≡ k +ℕ d) where
+    abbrev top : ℤ[x]/ n
+    top = constant (residue n (getD w j 0))
+
+    abbrev multiple : ℤ[x]/ n
+    multiple = x^ k · poly n b
+
+    pub division-more : PartialDivision n a b i q w
+        → Represents n v (poly n q + constant (residue n (getD w j 0)) · (x^ k · poly n (1 ∷ replicate 32 0)))
+        → Represents n u (poly n w + constant (residue n (n - getD w j 0)) · (x^ k · poly n b))
+        → PartialDivision n a b j v u
+    division-more p hv hu = record {
+      limit = omega (arith, p .limit);
+      quotient = hv .reduced;
+      remainder = hu .reduced;
+      law = ap₂ (λ y z. y · poly n b + z) quotient-is left-is
+          ∙ solve (PolyRing (Residues n)) 5 (λ q c y b w. (q ⊕ c ⊗ (y ⊗ con 1)) ⊗ b ⊕ (w ⊖ c ⊗ (y ⊗ b)) ≈ q ⊗ b ⊕ w) tt
+          (poly n q) top (x^ k) (poly n b) (poly n w)
+          ∙ p .law;
+      small = rw (left-is, degrees) fewer;
+    }
+      where
+        quotient-is : poly n v ≡ poly n q + top · (x^ k · 𝟏)
+        quotient-is = hv .is ∙ ap (λ e. poly n q + top · (x^ k · e)) (poly-unit n 32)
+
+        small : getD w j 0 < n
+        small = p .remainder .low j
+
+        left-is : poly n u ≡ poly n w + - (top · multiple)
+        left-is =
+            hu .is
+            ∙ ap (λ c. poly n w + c)
+            (ap (λ c. c · multiple) (constant-residue-neg n (omega (arith, small)) (omega (arith, small)))
+            ∙ neg-mul (PolyRing (Residues n)) top multiple)
+
+        fewer : Below (k +ℕ d) (poly n w + - (constant (residue n (getD w (k +ℕ d) 0)) · multiple))
+        fewer = rw (← coef-poly n w (k +ℕ d)) (below-top (monic-mul (monic-pow-x k) monic) (poly n w) (below-up (omega arith) (p .small)))
+
+  pub division-done : {d i : ℕ} {q w : List ℕ} → PartialDivision n a b i q w → i ≤ d → DividedBy n a b d q w
+  division-done p l = record { quotient = p .quotient; remainder = p .remainder; law = p .law; small = below-up l (p .small) }

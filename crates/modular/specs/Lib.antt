@@ -1,0 +1,6 @@
+pub mod Shift
+pub mod Coefficients
+pub mod AddMultiple
+pub mod Sum
+pub mod Product
+pub mod Division

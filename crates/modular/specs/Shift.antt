@@ -1,0 +1,32 @@
+-- Multiples by a power of x: the coefficients, k places up.
+-- Proves where each coefficient of x^k·a comes from. Assumes nothing.
+use mathlib.Core.Path.{_≡_, _∙_, ap}
+use Prim.Native.Nat.{ℕ, zero, suc, _≤_, _<_, _-_}
+use native.Mathlib.Omega.{arith}
+use Rattle.algebra.specs.Ring.{CommRing, one-mul, mul-assoc}
+use Rattle.algebra.specs.Divisibility.{pow, pow-zero, pow-suc}
+use Rattle.algebra.specs.Polynomials.{Poly, PolyRing, _·_, x, coef-x-mul-zero, coef-x-mul-suc}
+
+module _ {R : Type 0} {𝓡 : CommRing R} where
+  -- x to the power k
+  abbrev pub x^ : ℕ → Poly 𝓡
+  x^ k = pow (PolyRing 𝓡) x k
+
+  pub shift-zero : (a : Poly 𝓡) → x^ 0 · a ≡ a
+  shift-zero a = ap (λ b. b · a) (pow-zero (PolyRing 𝓡) x) ∙ one-mul (PolyRing 𝓡) a
+
+  pub shift-suc : (k : ℕ) (a : Poly 𝓡) → x^ (suc k) · a ≡ x · (x^ k · a)
+  shift-suc k a = ap (λ b. b · a) (pow-suc (PolyRing 𝓡) x k) ∙ mul-assoc (PolyRing 𝓡) x (x^ k) a
+
+  pub coef-shift-below : (k : ℕ) (a : Poly 𝓡) (j : ℕ) → j < k → (x^ k · a) .coef j ≡ 𝓡 .𝟘
+  coef-shift-below zero a j l = absurd (omega arith)
+  coef-shift-below (suc k) a zero l = ap (λ b. b .coef 0) (shift-suc k a) ∙ coef-x-mul-zero (x^ k · a)
+  coef-shift-below (suc k) a (suc j) l =
+      ap (λ b. b .coef (suc j)) (shift-suc k a) ∙ coef-x-mul-suc (x^ k · a) j ∙ coef-shift-below k a j (omega arith)
+
+  pub coef-shift : (k : ℕ) (a : Poly 𝓡) (j : ℕ) → k ≤ j → (x^ k · a) .coef j ≡ a .coef (j - k)
+  coef-shift zero a j l = ap (λ b. b .coef j) (shift-zero a) ∙ ap (a .coef) (let e : j ≡ j - 0 = omega arith in e)
+  coef-shift (suc k) a zero l = absurd (omega arith)
+  coef-shift (suc k) a (suc j) l =
+      ap (λ b. b .coef (suc j)) (shift-suc k a) ∙ coef-x-mul-suc (x^ k · a) j ∙ coef-shift k a j (omega arith)
+      ∙ ap (a .coef) (let e : j - k ≡ suc j - suc k = omega arith in e)

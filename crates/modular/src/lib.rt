@@ -1,0 +1,133 @@
+// Arithmetic modulo n on arrays of 33 coefficients, constant first: n is a prime or its square. Everything is built of one loop,
+// a + c·x^k·b. The contracts speak of polynomials over ℤ/n; all is public for the crates above, and no entry point of the library.
+ghost use mathlib.Core.Path.{_≡_};
+ghost use Prim.Native.Nat.{_<_, _≤_, _%_, _+_ as _+ℕ_, _*_ as _*ℕ_};
+ghost use lib.Dec.{ltb};
+ghost use Rattle.specification.specs.Lists.{all};
+ghost use Rattle.algebra.specs.Residues.{residue};
+ghost use Rattle.algebra.specs.Polynomials.{_+_, _·_, -_, constant};
+ghost use Rattle.algebra.specs.Degree.{Below, Monic};
+ghost use Rattle.algebra.specs.CoefficientLists.{poly, Reduced};
+ghost use Rattle.modular.specs.Shift.{x^};
+ghost use Rattle.modular.specs.Coefficients.{Represents, Size};
+ghost use Rattle.modular.specs.Division.{DividedBy};
+
+pub struct Divided {
+    pub quotient: [u16; 33],
+    pub remainder: [u16; 33],
+}
+
+// s modulo n: the one place where a number is divided and made narrow.
+pub fn reduce(n: u16, s: u64) -> u16
+    requires { ⌜ 0 < n ⌝ }
+    ensures { λ r. ⌜ (r ≡ s % n) × (r < n) ⌝ }
+{
+    (s % (n as u64)) as u16
+}
+
+// y + c·z modulo n.
+pub fn add_product(y: u16, c: u16, z: u16, n: u16) -> u16
+    requires { ⌜ 0 < n ⌝ }
+    ensures { λ r. ⌜ r ≡ (y +ℕ c *ℕ z) % n ⌝ }
+{
+    reduce(n, y as u64 + c as u64 * z as u64)
+}
+
+// a + c·x^k·b, where b has m terms.
+pub fn add_multiple(a: [u16; 33], c: u16, b: [u16; 33], k: usize, m: usize, n: u16) -> [u16; 33]
+    requires { ⌜ Reduced n 33 a × Below m (poly n b) × (k +ℕ m ≤ 33) ⌝ }
+    ensures { λ r. ⌜ Represents n r (poly n a + constant (residue n c) · (x^ k · poly n b)) ⌝ }
+{
+    let end = k + m;
+    let mut r = a;
+    let mut i = k;
+    while i < end {
+        r[i] = add_product(a[i], c, b[i - k], n);
+        i += 1;
+    }
+    r
+}
+
+// a + b.
+pub fn sum(a: [u16; 33], b: [u16; 33], n: u16) -> [u16; 33]
+    requires { ⌜ Reduced n 33 a ⌝ }
+    ensures { λ r. ⌜ Represents n r (poly n a + poly n b) ⌝ }
+{
+    add_multiple(a, 1, b, 0, 33, n)
+}
+
+// a - b: n - 1 stands for minus one.
+pub fn difference(a: [u16; 33], b: [u16; 33], n: u16) -> [u16; 33]
+    requires { ⌜ Reduced n 33 a ⌝ }
+    ensures { λ r. ⌜ Represents n r (poly n a + - poly n b) ⌝ }
+{
+    add_multiple(a, n - 1, b, 0, 33, n)
+}
+
+// a·b, where a has s terms and b has t.
+pub fn product(a: [u16; 33], s: usize, b: [u16; 33], t: usize, n: u16) -> [u16; 33]
+    requires { ⌜ (0 < n) × (s ≤ 33) × (s +ℕ t ≤ 34) × Below s (poly n a) × Below t (poly n b) ⌝ }
+    ensures { λ r. ⌜ Represents n r (poly n a · poly n b) ⌝ }
+{
+    let mut r = [0u16; 33];
+    let mut i: usize = 0;
+    while i < s {
+        let v = add_multiple(r, a[i], b, i, t, n);
+        r = v;
+        i += 1;
+    }
+    r
+}
+
+// a divided by b, where a has s terms and b is monic of degree d.
+pub fn divide(a: [u16; 33], s: usize, b: [u16; 33], d: usize, n: u16) -> Divided
+    requires { ⌜ Reduced n 33 a × (s ≤ 33) × (d < 33) × Below s (poly n a) × Monic d (poly n b) ⌝ }
+    ensures { λ r. ⌜ DividedBy n a b d (r .quotient) (r .remainder) ⌝ }
+{
+    let mut unit = [0u16; 33];
+    unit[0] = 1;
+    let mut q = [0u16; 33];
+    let mut w = a;
+    let mut i = s;
+    while d < i {
+        let k = i - 1 - d;
+        let c = w[i - 1];
+        let v = add_multiple(q, c, unit, k, 1, n);
+        q = v;
+        let u = add_multiple(w, n - c, b, k, d + 1, n);
+        w = u;
+        i -= 1;
+    }
+    Divided {
+        quotient: q,
+        remainder: w,
+    }
+}
+
+// One more than the degree; 0 for the zero polynomial.
+pub fn size(a: [u16; 33]) -> usize
+    ensures { λ r. ⌜ Size a r ⌝ }
+{
+    let mut i: usize = 33;
+    while 0 < i {
+        if a[i - 1] != 0 {
+            return i;
+        }
+        i -= 1;
+    }
+    0
+}
+
+// Every coefficient is below n.
+pub fn all_below(a: [u16; 33], n: u16) -> bool
+    ensures { λ r. ⌜ r ≡ all (λ c. ltb c n) a ⌝ }
+{
+    let mut i: usize = 0;
+    while i < 33 {
+        if n <= a[i] {
+            return false;
+        }
+        i += 1;
+    }
+    true
+}

@@ -1,0 +1,28 @@
+-- `polynomial::add` meets its contract: where the number is 0 both records are proper and of one prime.
+-- Assumes nothing.
+use mathlib.Core.Path.{sym, _∙_}
+use borrow.Author.Needs.{needs}
+use Rattle.specification.specs.Records.{sum}
+use Rattle.polynomial.specs.Accepted.{pair-accepted}
+use Rattle.polynomial.specs.Results.{result-refused, sum-is}
+use Rattle.polynomial.proofs.add.Statement.{statement}
+use Rattle.polynomial.proofs.add.Tie as tie
+
+pub add-spec : {M : Type 1} → statement M
+unfolding sum
+add-spec =
+    tie.close
+    (tie.spec
+    (λ c κs. search needs)  -- pair-number-requires
+    (λ c κs. search needs)  -- square-requires
+    (λ c κs.
+    let d = c .before .before .before in
+    rw (c .square .ensures) (pair-accepted _ _ (sym (d .before .pair-number .ensures) ∙ d .if1 .taken) .first))  -- sum-requires
+    (λ c κs. search needs)  -- accept-requires
+    (λ c κs. search needs)  -- refuse-requires
+    (λ c.
+    let d = c .before .before .before .before .before in
+    c .accept .ensures
+    ∙ sum-is _ _ (sym (d .before .pair-number .ensures) ∙ d .if1 .taken)
+    (rw (c .before .before .square .ensures) at (c .before .sum .ensures)))  -- returns
+    (λ c. c .refuse .ensures ∙ (rw (← c .before .before .pair-number .ensures) (result-refused _ (c .before .if1 .left)))))  -- returns-2
