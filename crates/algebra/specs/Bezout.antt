@@ -1,6 +1,6 @@
 -- Polynomials over a field: Euclid's algorithm.
 -- Proves Bézout: two polynomials, not both 𝟎, have a monic common divisor that is a combination of them. Assumes nothing.
-use mathlib.Core.Path.{_≡_, refl, sym, _∙_, ap}
+use mathlib.Core.Path.{_≡_, sym, _∙_, ap}
 use mathlib.Core.Logic.{_⊎_, inl, inr, _≢_, ⊎-elim}
 use Prim.Native.Nat.{ℕ, zero, suc}
 use native.Mathlib.Omega.{arith}

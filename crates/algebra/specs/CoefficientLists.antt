@@ -2,18 +2,17 @@
 -- Proves that the specification's sums, products and powers are the ring's, and that a reduced list is found again from its polynomial.
 -- Assumes nothing.
 use mathlib.Core.Path.{_≡_, refl, sym, _∙_, ap, ap₂}
-use mathlib.Core.List.{List, [], _∷_, _++_, map}
-use mathlib.Core.Logic.{⊎-elim}
+use mathlib.Core.List.{List, [], _∷_, map}
 use Prim.Native.Nat.{ℕ, zero, suc, _≤_, _<_, _-_, _%_, _+_ as _+ℕ_, _*_ as _*ℕ_}
-use native.Mathlib.Nat.{mod-eq-of-lt, mod-lt}
+use native.Mathlib.Nat.{mod-eq-of-lt}
 use native.Mathlib.Omega.{arith}
 use lib.ListN.{length, getD, List·getD-eq-default}
 use lib.Seq.{ext-getD}
 use Rattle.specification.specs.Polynomials as spec
-use Rattle.algebra.specs.Ring.{CommRing, ring, add-zero, zero-add, zero-mul, mul-zero}
-use Rattle.algebra.specs.Identities.{con, _⊕_, _⊖_, _⊗_, ⊝_, _≈_, solve}
+use Rattle.algebra.specs.Ring.{add-zero, zero-add, zero-mul, mul-zero}
+use Rattle.algebra.specs.Identities.{con, _⊕_, _⊗_, ⊝_, _≈_, solve}
 use Rattle.algebra.specs.Divisibility.{pow, pow-zero, pow-suc, product, product-nil, product-cons}
-use Rattle.algebra.specs.Residues.{ℤ/, residue, Residues, residue-zero, residue-one, residue-add, residue-mul, residue-neg, residue-mod, same-remainder}
+use Rattle.algebra.specs.Residues.{residue, Residues, residue-zero, residue-one, residue-add, residue-mul, residue-neg, residue-mod, same-remainder}
 use Rattle.algebra.specs.Polynomials.{
   Poly,
   PolyRing,
@@ -29,7 +28,6 @@ use Rattle.algebra.specs.Polynomials.{
   coef-add,
   coef-constant-zero,
   coef-constant-suc,
-  coef-constant-mul,
   coef-x-mul-zero,
   coef-x-mul-suc,
   constant-add,
@@ -101,7 +99,8 @@ module _ (n : ℕ) where
   unfolding spec.shift
   poly-shift [] = poly-nil ∙ sym (ap (λ a. x · a) poly-nil ∙ mul-zero (PolyRing (Residues n)) x)
   poly-shift (a ∷ f) =
-      poly-cons 0 (a ∷ f) ∙ ap (λ c. c + x · poly n (a ∷ f)) (ap constant (residue-zero n) ∙ constant-zero (Residues n)) ∙ (PolyRing (Residues n)) .+-zero (x · poly n (a ∷ f))
+      poly-cons 0 (a ∷ f) ∙ ap (λ c. c + x · poly n (a ∷ f)) (ap constant (residue-zero n) ∙ constant-zero (Residues n))
+      ∙ (PolyRing (Residues n)) .+-zero (x · poly n (a ∷ f))
 
   pub poly-times : (f g : List ℕ) → poly n (spec.times f g) ≡ poly n f · poly n g
   unfolding spec.times

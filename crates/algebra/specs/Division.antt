@@ -1,10 +1,10 @@
 -- Division of polynomials by a monic polynomial, over any commutative ring.
 -- Proves that a quotient and a remainder exist, and that only these multiply out to the dividend. Assumes nothing.
-use mathlib.Core.Path.{_≡_, refl, sym, _∙_, ap, ap₂}
-use Prim.Native.Nat.{ℕ, zero, suc, _≤_}
+use mathlib.Core.Path.{_≡_, sym, _∙_, ap}
+use Prim.Native.Nat.{ℕ, zero, suc}
 use native.Mathlib.Omega.{arith}
-use Rattle.algebra.specs.Ring.{CommRing, ring, add-zero, mul-one, add-neg, add-left-cancel, eq-of-sub, linear1, zero-mul}
-use Rattle.algebra.specs.Identities.{con, _⊕_, _⊖_, _⊗_, ⊝_, _≈_, solve}
+use Rattle.algebra.specs.Ring.{CommRing, ring, mul-one, add-neg, add-left-cancel, eq-of-sub, linear1}
+use Rattle.algebra.specs.Identities.{con, _⊕_, _⊖_, _⊗_, _≈_, solve}
 use Rattle.algebra.specs.Polynomials.{
   Poly,
   PolyRing,

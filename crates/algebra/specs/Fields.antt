@@ -1,6 +1,6 @@
 -- Fields, and that ℤ/p is one for a prime p: the inverse of a is −(p / a) times that of p % a.
 -- Proves it of every prime that document 01 takes, by one computed test over the list of primes. Assumes nothing.
-use mathlib.Core.Path.{_≡_, refl, sym, _∙_, ap, subst}
+use mathlib.Core.Path.{_≡_, sym, _∙_, ap, subst}
 use mathlib.Core.Bool.{Bool, not, _&&_}
 use mathlib.Core.Logic.{_⊎_, inl, inr, _≢_}
 use Prim.Native.Nat.{ℕ, zero, suc, _+_ as _+ℕ_, _*_ as _*ℕ_, _-_, _<_, _≤_, _%_, _/_}
@@ -10,7 +10,7 @@ use native.Mathlib.Omega.{arith}
 use lib.Dec.{T, eqb, leb, leb→le}
 use Rattle.specification.specs.Limits.{primes, taken}
 use Rattle.specification.specs.Lists.{all, upFrom}
-use Rattle.algebra.specs.Ring.{CommRing, ring, zero-mul, neg-zero, add-zero as add-𝟘}
+use Rattle.algebra.specs.Ring.{CommRing, zero-mul, neg-zero, add-zero as add-𝟘}
 use Rattle.algebra.specs.Identities.{_⊕_, _⊖_, _⊗_, ⊝_, _≈_, solve}
 use Rattle.algebra.specs.Residues.{
   ℤ/,

@@ -4,13 +4,12 @@ use mathlib.Core.Path.{_≡_, refl, sym, _∙_, ap, ap₂}
 use mathlib.Core.List.{List, [], _∷_, map}
 use Prim.Native.Nat.{ℕ, zero, suc}
 use Rattle.algebra.specs.Ring.{CommRing, add-zero, add-left-cancel, neg-unique, add-neg}
-use Rattle.algebra.specs.Divisibility.{pow, pow-zero, pow-suc, product, product-nil, product-cons, _∣_, Coprime}
+use Rattle.algebra.specs.Divisibility.{pow, pow-zero, pow-suc, product, product-nil, product-cons, _∣_}
 use Rattle.algebra.specs.Polynomials.{
   Poly,
   PolyRing,
   _+_,
   _·_,
-  𝟏,
   constant,
   tail,
   each,
@@ -51,14 +50,6 @@ module _ {R S : Type 0} {𝓡 : CommRing R} {𝓢 : CommRing S} {φ : R → S} (
 
   pub keeps-divides : {a b : R} → _∣_ 𝓡 a b → _∣_ 𝓢 (φ a) (φ b)
   keeps-divides {a} (q, e) = (φ q, sym (h .keeps-mul q a) ∙ ap φ e)
-
-  pub keeps-coprime : {a b : R} → Coprime 𝓡 a b → Coprime 𝓢 (φ a) (φ b)
-  keeps-coprime {a} {b} c = record {
-    u = φ (c .u);
-    v = φ (c .v);
-    law = ap₂ (𝓢 .add) (sym (h .keeps-mul (c .u) a)) (sym (h .keeps-mul (c .v) b))
-        ∙ sym (h .keeps-add (𝓡 .mul (c .u) a) (𝓡 .mul (c .v) b)) ∙ ap φ (c .law) ∙ h .keeps-one;
-  }
 
   -- ---- polynomials
 

@@ -1,7 +1,7 @@
 -- Polynomials over a ring with decided equality: the least bound of the degree, the leading coefficient.
 -- Proves that equality of polynomials and divisibility by a monic polynomial are decided, and that a divisor's cofactor is monic.
 -- Assumes nothing.
-use mathlib.Core.Path.{_≡_, refl, sym, _∙_, ap}
+use mathlib.Core.Path.{_≡_, sym, _∙_, ap}
 use mathlib.Core.HLevel.{Π-prop, ⊥-prop, isProp→PathP}
 use mathlib.Core.Logic.{_⊎_, inl, inr, _≢_, ∥∥₁-elim, ⊎-elim}
 use Prim.Native.Nat.{ℕ, zero, suc, _≤_, _<_, _+_ as _+ℕ_}

@@ -3,14 +3,13 @@
 use mathlib.Core.Path.{_≡_, refl, sym, _∙_, ap}
 use mathlib.Core.List.{List, [], _∷_, map}
 use mathlib.Core.Logic.{⊎-elim}
-use Prim.Native.Nat.{ℕ, zero, suc, _≤_, _<_, _+_, _*_, _%_, _-_}
+use Prim.Native.Nat.{ℕ, suc, _≤_, _<_, _+_, _*_, _%_, _-_}
 use native.Mathlib.Nat.{mod-lt, zero-mod}
 use native.Mathlib.Omega.{arith}
 use lib.ListN.{length, getD, take, replicate, length-map, length-take, length-replicate, getD-replicate, List·getD-eq-default, List·getD-map}
 use lib.Seq.{getD-take}
 use Rattle.specification.specs.Polynomials.{plus, multiple, shift, times, reduce, add, scale, sub}
 use Rattle.algebra.specs.Numbers.{lt-or-le}
-use Rattle.algebra.specs.CoefficientLists.{Reduced}
 
 pub length-plus : (f g : List ℕ) → length g ≤ length f → length (plus f g) ≡ length f
 unfolding plus
@@ -80,9 +79,6 @@ getD-reduce n f k = getD-map (λ (a : ℕ). a % n) (zero-mod n) f k
 module _ (n : ℕ) (pos : 0 < n) where
   pub low-reduce : (f : List ℕ) (k : ℕ) → getD (reduce n f) k 0 < n
   low-reduce f k = rw getD-reduce (mod-lt (getD f k 0) pos)
-
-  pub reduced-reduce : (f : List ℕ) → Reduced n (length f) (reduce n f)
-  reduced-reduce f = record { len = length-reduce n f; low = low-reduce f }
 
   pub low-take : (d : ℕ) (f : List ℕ) → ((k : ℕ) → getD f k 0 < n) → (k : ℕ) → getD (take d f) k 0 < n
   low-take d f h k = ⊎-elim (λ l. rw (getD-take d f k 0 l) (h k)) (λ l. rw (past l) pos) (lt-or-le k d)

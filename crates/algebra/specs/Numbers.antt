@@ -1,9 +1,9 @@
--- Facts on natural numbers that the kit's library lacks: trichotomy as a choice, and remainders inside a remainder.
+-- Facts on natural numbers that the kit's library lacks: trichotomy as a choice, remainders inside a remainder, and that p² is large.
 -- Assumes nothing.
 use mathlib.Core.Path.{_≡_, sym, _∙_, ap}
 use mathlib.Core.Logic.{_⊎_, inl, inr, ⊎-elim}
 use Prim.Native.Nat.{ℕ, zero, suc, _+_, _*_, _%_, _/_, _<_, _≤_, zero-le, suc-le-suc}
-use native.Mathlib.Nat.{mod-mod, mod-add-mod, add-mod-mod, mul-comm, add-mul-mod-self-left, mod-add-div}
+use native.Mathlib.Nat.{mul-le-mul-left, mod-mod, mod-add-mod, add-mod-mod, mul-comm, add-mul-mod-self-left, mod-add-div}
 use native.Mathlib.Omega.{arith}
 
 pub lt-or-le : (a b : ℕ) → (a < b) ⊎ (b ≤ a)
@@ -21,3 +21,6 @@ pub mod-mul-mod : (a b n : ℕ) → a % n * b % n ≡ a * b % n
 mod-mul-mod a b n = rw (mul-comm (a % n) b, mul-mod-mod, mul-comm b a)
 
 pub ruleset modulo = (mod-add-mod, add-mod-mod, mod-mul-mod, mul-mod-mod, mod-mod)
+
+pub square-large : (p : ℕ) → 1 < p → 1 < p * p
+square-large p large = omega (arith, mul-le-mul-left p (let l : 1 ≤ p = omega arith in l))

@@ -3,7 +3,7 @@
 -- Proves the ring laws, and that `residue n` turns sums and products of numbers into those of the ring. Assumes nothing.
 use mathlib.Core.Path.{_≡_, refl, sym, _∙_, ap}
 use mathlib.Core.HLevel.{Σ-set, prop→set, isProp→PathP}
-use Prim.Native.Nat.{ℕ, zero, suc, _+_ as _+ℕ_, _*_ as _*ℕ_, _-_, _%_, _<_, _≤_}
+use Prim.Native.Nat.{ℕ, suc, _+_ as _+ℕ_, _*_ as _*ℕ_, _-_, _%_, _<_, _≤_}
 use native.Mathlib.Bridge.{le-prop}
 use native.Mathlib.Omega.{arith}
 use native.Mathlib.Nat.{

@@ -1,7 +1,7 @@
 -- Commutative rings: one record of operations and laws.
 -- Proves the laws that follow, the ruleset `ring` for `simp`, and linear combinations of equations.
 -- Assumes nothing.
-use mathlib.Core.Path.{_≡_, refl, sym, _∙_, ap}
+use mathlib.Core.Path.{_≡_, sym, _∙_, ap}
 
 pub record CommRing (R : Type 0) : Type 0 where
   pub add : R → R → R

@@ -114,26 +114,6 @@ module _ {A B : Type 0} {𝓐 : CommRing A} {𝓑 : CommRing B} {bar : A → B} 
             ≈ (con 1 ⊖ π ⊗ y) ⊗ (u ⊗ a ⊕ v ⊗ b ⊖ (con 1 ⊕ π ⊗ y)) ⊕ ⊝ (y ⊗ y) ⊗ (π ⊗ π ⊖ con 0)) tt a b u v π y);
       }
 
-  -- the bar of a cancels, so a does
-  pub cancel-lift : {a : A} → ((b : B) → b ∗ bar a ≡ 𝟎 → b ≡ 𝟎) → {x y : A} → x * a ≡ y * a → x ≡ y
-  cancel-lift {a} cancel {x} {y} e = eq-of-sub 𝓐 (linear2 𝓐 𝟙 (E .part (E .part z)) (first ∙ ap (λ c. π * c) second) (E .square)
-      (solve 𝓐 3 (λ z π c. z ⊖ con 0 ≈ con 1 ⊗ (z ⊖ π ⊗ (π ⊗ c)) ⊕ c ⊗ (π ⊗ π ⊖ con 0)) tt z π (E .part (E .part z))))
-    where
-      z : A
-      z = x + neg y
-
-      gone : z * a ≡ 𝟘
-      gone = linear1 𝓐 𝟙 e (solve 𝓐 3 (λ x y a. (x ⊖ y) ⊗ a ⊖ con 0 ≈ con 1 ⊗ (x ⊗ a ⊖ y ⊗ a)) tt x y a)
-
-      in-kernel : (c : A) → bar (c * a) ≡ 𝟎 → c ≡ π * E .part c
-      in-kernel c h = E .kernel c (cancel (bar c) (sym (bar-mul c a) ∙ h))
-
-      first : z ≡ π * E .part z
-      first = in-kernel z (ap bar gone ∙ keeps-zero (E .hom))
-
-      second : E .part z ≡ π * E .part (E .part z)
-      second = in-kernel (E .part z) (E .kill (E .part z * a) (sym (𝓐 .*-assoc π (E .part z) a) ∙ ap (λ c. c * a) (sym first) ∙ gone))
-
   -- coprime to the bar of each member, so to that of the product
   pub coprime-bar-product : (b : B) (l : List A) → All (λ a. Coprime 𝓑 b (bar a)) l → Coprime 𝓑 b (bar (product 𝓐 l))
   coprime-bar-product b [] h = rw (product-nil 𝓐, bar-one) (coprime-one 𝓑 b)

@@ -10,7 +10,7 @@ pub mod LongestLists
 pub mod Blocks
 pub mod FewestDifferent
 pub mod Settings
-pub mod Choices
+pub mod LastMember
 pub mod MonicDivisors
 pub mod Irreducible
 pub mod Multiplicity

@@ -7,20 +7,7 @@ use Prim.Native.Nat.{ℕ, zero, suc, _≤_, zero-le, suc-le-suc}
 use native.Mathlib.Nat.{le-antisymm}
 use Rattle.algebra.specs.Ring.{CommRing, linear1, eq-of-sub, mul-one}
 use Rattle.algebra.specs.Identities.{con, _⊖_, _⊗_, _≈_, solve}
-use Rattle.algebra.specs.Divisibility.{
-  _∣_ as Divides,
-  Coprime,
-  pow,
-  pow-zero,
-  pow-suc,
-  pow-divides,
-  divides-refl,
-  divides-mul-both,
-  one-divides,
-  coprime-sym,
-  coprime-pow,
-  gauss,
-}
+use Rattle.algebra.specs.Divisibility.{_∣_ as Divides, Coprime, pow, pow-zero, pow-suc, divides-refl, divides-mul-both, one-divides, coprime-sym, coprime-pow, gauss}
 
 module _ {R : Type 0} (𝓡 : CommRing R) where
   infixl 60 _+_
@@ -80,8 +67,3 @@ module _ {R : Type 0} (𝓡 : CommRing R) where
             rw (← pow-top (exponent n b), ← e) (divides-mul-both 𝓡 d (divides-refl 𝓡 G), divides-mul-both 𝓡 u (divides-refl 𝓡 G))
         go (inr c) f =
             rw (pow-zero 𝓡 G) (gauss 𝓡 (coprime-pow 𝓡 (suc n) (coprime-sym 𝓡 c)) (q, h ∙ sym (𝓡 .*-one (pow 𝓡 G (suc n)))), one-divides 𝓡 a)
-
-    pub exponent-pow : {n e : ℕ} → e ≤ n → exponent n (pow 𝓡 G e) ≡ e
-    exponent-pow {n} {e} l =
-        let (d, u) = divisor-of-power n (pow 𝓡 G e) (pow-divides 𝓡 G l) in
-        le-antisymm (pow-le (exponent n (pow 𝓡 G e)) e u) (pow-le e (exponent n (pow 𝓡 G e)) d)

@@ -1,5 +1,5 @@
 -- Settings of one part: its longest lists, the member of highest multiplicity last.
--- Proves the first half of claim G: where s + r = m, the last member has the bar G^(r+1) and all others have the bar G.
+-- Proves the first half of claim G: all members but the last have the bar G.
 -- Assumes nothing.
 use mathlib.Core.Path.{_≡_, refl, sym, _∙_, ap}
 use mathlib.Core.Logic.{_⊎_, inl, inr}
@@ -145,9 +145,6 @@ module _ {A B : Type 0} {𝓐 : CommRing A} {𝓑 : CommRing B} {bar : A → B} 
 
     first-is : (x : A) → x ∈ xs → 1 ≡ e x
     first-is = total-equal (λ x. 1) e xs ones (omega (arith, sum, total-cons e y xs, total-one xs, last-is, sr, l .count))
-
-    pub last-bar : bar y ≡ pow 𝓑 (bar g) (suc r)
-    last-bar = powers y (here refl) ∙ ap (pow 𝓑 (bar g)) last-is
 
     pub first-bar : All (λ x. bar x ≡ bar g) xs
     first-bar x i = powers x (there i) ∙ ap (pow 𝓑 (bar g)) (sym (first-is x i)) ∙ pow-one 𝓑 (bar g)

@@ -1,7 +1,7 @@
 -- Factorisations of f over a field into powers G^m of different irreducible G, as lists of pairs (G, m).
 -- Proves that G is coprime to the product of the other powers, that two factorisations of f have the same members, and that they are equal
 -- where both are in order by a strict order of the bases. Assumes nothing.
-use mathlib.Core.Path.{_≡_, refl, sym, _∙_, ap, subst}
+use mathlib.Core.Path.{_≡_, refl, sym, _∙_, ap}
 use mathlib.Core.List.{List, [], _∷_, map, List·Memᴰ·cases-cons, Memᴰ·cast}
 use mathlib.Core.List.{List·Memᴰ·head as here, List·Memᴰ·tail as there}
 use mathlib.Core.Logic.{_⊎_, inl, inr, _≢_}
@@ -26,7 +26,7 @@ use Rattle.algebra.specs.Divisibility.{
 use Rattle.algebra.specs.Polynomials.{Poly, PolyRing, _·_}
 use Rattle.algebra.specs.Fields.{Field}
 use Rattle.factorisation.specs.Members.{_∈_, All, all-tail}
-use Rattle.factorisation.specs.InOrder.{StrictOrder, InOrder, in-order-by, in-order-unique}
+use Rattle.factorisation.specs.InOrder.{StrictOrder, InOrder, in-order-unique}
 use Rattle.factorisation.specs.Irreducible.{Irreducible, irreducible-prime, same-or-coprime, different-coprime}
 use Rattle.factorisation.specs.Multiplicity.{Multiplicity, coprime-not-divides, multiplicity-unique}
 
@@ -56,12 +56,6 @@ module _ {R : Type 0} {𝓡 : CommRing R} where
 
   pub power-coprime : (P : Poly 𝓡 × ℕ) {c : Poly 𝓡} → Coprime (PolyRing 𝓡) (P .0) c → Coprime (PolyRing 𝓡) (power P) c
   power-coprime P c = coprime-sym (PolyRing 𝓡) (coprime-pow (PolyRing 𝓡) (P .1) (coprime-sym (PolyRing 𝓡) c))
-
-  -- bases in order are different
-  pub in-order-different : {before : Poly 𝓡 → Poly 𝓡 → Type 0} → StrictOrder before → (l : List (Poly 𝓡 × ℕ))
-      → InOrder (λ P Q. before (P .0) (Q .0)) l → InOrder (λ P Q. P .0 ≢ Q .0) l
-  in-order-different {before} O l =
-      in-order-by (λ P Q. before (P .0) (Q .0)) (λ P Q. P .0 ≢ Q .0) l (λ P Q i j b e. O .irreflexive (subst (before (P .0)) (sym e) b))
 
   module _ (field : Field 𝓡) where
     coprime-times-power : {G : Poly 𝓡} (P : Poly 𝓡 × ℕ) {c : Poly 𝓡} → Irreducible G → Irreducible (P .0) → G ≢ P .0

@@ -2,7 +2,7 @@
 -- Proves that the definition `inverse` gives it where there is one, and 0 where there is none. Assumes nothing.
 use mathlib.Core.Path.{_≡_, sym, _∙_, ap, subst}
 use mathlib.Core.Bool.{Bool}
-use Prim.Native.Nat.{ℕ, _+_, _*_, _%_, _<_, zero-le}
+use Prim.Native.Nat.{ℕ, _*_, _%_, _<_, zero-le}
 use native.Mathlib.Nat.{mul-one, mod-eq-of-lt}
 use native.Mathlib.Omega.{arith}
 use lib.Dec.{T, eqb, eqb→eq}

@@ -5,7 +5,6 @@ use mathlib.Core.Path.{_≡_, refl, sym, _∙_, ap, ap₂, subst}
 use mathlib.Core.Bool.{true, _&&_, and-eq-true-iff}
 use mathlib.Core.List.{[], _∷_}
 use Prim.Native.Nat.{ℕ, zero, suc, _-_, _*_, _<_}
-use native.Mathlib.Nat.{mul-le-mul-left, le-of-lt}
 use native.Mathlib.Omega.{arith}
 use lib.Dec.{T, eqb, ltb}
 use lib.ListN.{length, getD}
@@ -14,13 +13,35 @@ use Rattle.specification.specs.Lists.{all}
 use Rattle.specification.specs.Polynomials as spec
 use Rattle.specification.specs.Polynomials.{isZero}
 use Rattle.specification.specs.Limits.{taken}
-use Rattle.specification.specs.Records.{proper, pad, trim, recordOf, primeNumber, pairNumber, divisionNumber, PolyRecord, modulus, polynomial, size, given, constant, zeroOf, oneOf, xOf, sum, difference, productOf, division}
+use Rattle.specification.specs.Records.{
+  proper,
+  pad,
+  trim,
+  recordOf,
+  primeNumber,
+  pairNumber,
+  divisionNumber,
+  PolyRecord,
+  modulus,
+  polynomial,
+  size,
+  given,
+  constant,
+  zeroOf,
+  oneOf,
+  xOf,
+  sum,
+  difference,
+  productOf,
+  division,
+}
 use Rattle.algebra.specs.Identities.{con, _⊕_, _⊗_, _≈_, solve}
 use Rattle.algebra.specs.Residues.{Residues, residue-zero}
 use Rattle.algebra.specs.Polynomials as polynomials
 use Rattle.algebra.specs.Polynomials.{PolyRing, _+_, _·_, -_, 𝟎, 𝟏, x, constant-zero}
 use Rattle.algebra.specs.Degree.{Below, below-zero}
 use Rattle.algebra.specs.Fields.{taken-prime}
+use Rattle.algebra.specs.Numbers.{square-large}
 use Rattle.algebra.specs.Tests.{passes}
 use Rattle.algebra.specs.ListLaws.{all-from}
 use Rattle.algebra.specs.CoefficientLists.{ℤ[x]/, poly, poly-nil, poly-one, poly-cons}
@@ -111,7 +132,7 @@ module _ (a : PolyRecord) (good : proper a ≡ true) where
   is-taken = and-eq-true-iff (taken p) _ .0 (and-eq-true-iff (taken p && _) _ .0 good .0) .0
 
   large : 1 < p * p
-  large = let l = taken-prime p (subst T (sym is-taken) tt) .large in omega (arith, mul-le-mul-left p (le-of-lt l), l)
+  large = square-large p (taken-prime p (subst T (sym is-taken) tt) .large)
 
   one-is : (oneOf p) .value ≡ recordOf p (1 ∷ [])
   unfolding constant primeNumber
@@ -122,7 +143,8 @@ module _ (a : PolyRecord) (good : proper a ≡ true) where
   one-proper =
       and-eq-true-iff (taken p && eqb (length (pad (1 ∷ []))) 33) _ .1 (
         and-eq-true-iff (taken p) _ .1 (is-taken, eq-eqb (length (pad (1 ∷ []))) 33 (length-pad (1 ∷ []))),
-        passes _ (all-from (λ (c : ℕ). ltb c (p * p)) 0 (pad (1 ∷ [])) (λ k l. subst (λ (c : ℕ). T (ltb c (p * p))) (sym (getD-pad (1 ∷ []) (omega arith) k)) (at k))),
+        passes _ (all-from (λ (c : ℕ). ltb c (p * p)) 0 (pad (1 ∷ []))
+            (λ k l. subst (λ (c : ℕ). T (ltb c (p * p))) (sym (getD-pad (1 ∷ []) (omega arith) k)) (at k))),
       )
     where
       at : (k : ℕ) → T (ltb (getD (1 ∷ []) k 0) (p * p))

@@ -91,6 +91,13 @@ pub example-read : readCall 384 exampleAnswer ≡ success example
 unfolding everything
 example-read = refl
 
+-- x³ + 2x² + x modulo 4: basic x, then a later part that is split as the first is; power: x + 1 twice
+pub later-part-answered :
+    splitCall 384 (0x01 ∷ 2 ∷ 0x02 ∷ 3 ∷ 0x03 ∷ 1 ∷ 1 ∷ 0x03 ∷ 2 ∷ 2 ∷ 0x0F ∷ [])
+    ≡ success (0x01 ∷ 2 ∷ 0x02 ∷ 3 ∷ 0x11 ∷ 1 ∷ 1 ∷ 1 ∷ 0x12 ∷ 1 ∷ 1 ∷ 0x11 ∷ 1 ∷ 2 ∷ 3 ∷ 0x12 ∷ 1 ∷ 2 ∷ 0x03 ∷ 0 ∷ 1 ∷ 0x13 ∷ 3 ∷ 2 ∷ 1 ∷ 0x0F ∷ [])
+unfolding everything
+later-part-answered = refl
+
 -- item 3 at degree 2 modulo 2: x², x² + 1, x² + x, x² + x + 1, "from the highest power down, smaller first"
 pub order-holds : monics 2 2 ≡ (0 ∷ 0 ∷ 1 ∷ []) ∷ (1 ∷ 0 ∷ 1 ∷ []) ∷ (0 ∷ 1 ∷ 1 ∷ []) ∷ (1 ∷ 1 ∷ 1 ∷ []) ∷ []
 unfolding everything

@@ -42,12 +42,16 @@ pub record Digits (p k : ℕ) (ds : List ℕ) : Type 0 where
   pub count : length ds ≡ k
   pub low : (d : ℕ) → List·Memᴰ d ds → d < p
 
--- "p to the power of the free digits is the number of settings offered for f": strings of digits are settings, one to one
-pub record SettingsCounted (p : ℕ) (f : Poly) : Type 0 where
-  pub setting : List ℕ → List Poly
-  pub offered : (ds : List ℕ) → Digits p (freeDigits (partsOf p f)) ds → Setting p f (setting ds)
-  pub noneTwice : (ds es : List ℕ) → Digits p (freeDigits (partsOf p f)) ds → Digits p (freeDigits (partsOf p f)) es → setting ds ≡ setting es → ds ≡ es
-  pub allOffered : (L : List Poly) → Setting p f L → (ds : List ℕ) × Digits p (freeDigits (partsOf p f)) ds × (setting ds ≡ L)
+-- the strings of k digits number what has a property, one to one: so there are p to the k of it
+pub record Numbered {A : Type 0} (p k : ℕ) (Has : A → Type 0) : Type 0 where
+  pub of : List ℕ → A
+  pub offered : (ds : List ℕ) → Digits p k ds → Has (of ds)
+  pub noneTwice : (ds es : List ℕ) → Digits p k ds → Digits p k es → of ds ≡ of es → ds ≡ es
+  pub allOffered : (a : A) → Has a → (ds : List ℕ) × Digits p k ds × (of ds ≡ a)
+
+-- "p to the power of the free digits is the number of settings offered for f"
+abbrev pub SettingsCounted : ℕ → Poly → Type 0
+SettingsCounted p f = Numbered p (freeDigits (partsOf p f)) (Setting p f)
 
 -- the settings of every accepted sheet
 abbrev pub Settings : Type 0

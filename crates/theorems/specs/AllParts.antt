@@ -1,24 +1,25 @@
 -- The parts of f, as the specification finds them and as the theory of longest lists has them: `ring-parts`.
 -- Proves that each is split by its factors, that their bars are pairwise coprime, and what they multiply and add up to. Assumes nothing.
 use mathlib.Core.Path.{_≡_, refl, sym, _∙_, ap, ap₂, subst}
-use mathlib.Core.List.{List, [], _∷_, _++_, map, flatMap, map-map, map-append}
+use mathlib.Core.List.{List, [], _∷_, map, flatMap, map-append}
 use mathlib.Core.List.{List·Memᴰ·head as here, List·Memᴰ·tail as there}
 use Prim.Native.Nat.{ℕ, _≤_, _<_, _+_ as _+ℕ_, _*_ as _*ℕ_}
 use native.Mathlib.Omega.{arith}
 use lib.ListN.{length, length-append}
 use Rattle.specification.specs.Polynomials as spec
 use Rattle.specification.specs.Powers.{Power, powers, primary}
-use Rattle.specification.specs.Parts.{Factor, splitting, partOf, partsOf}
+use Rattle.specification.specs.Parts.{Factor, splitting, partOf}
 use Rattle.specification.specs.Totals.{copies, listOf, different}
 use Rattle.specification.specs.Claims as claims
+use Rattle.algebra.specs.Numbers.{square-large}
 use Rattle.algebra.specs.Ring.{CommRing}
-use Rattle.algebra.specs.Divisibility.{Coprime, product, product-nil, product-cons, product-append}
+use Rattle.algebra.specs.Divisibility.{Coprime, product, product-cons, product-append}
 use Rattle.algebra.specs.Residues.{Residues}
 use Rattle.algebra.specs.Polynomials.{PolyRing, _·_}
 use Rattle.algebra.specs.Fields.{Prime, residue-field}
 use Rattle.algebra.specs.CoefficientLists.{ℤ[x]/, poly, poly-product}
 use Rattle.factorisation.specs.Members.{_∈_, All, all-cons, all-tail, all-append, all-replicate}
-use Rattle.factorisation.specs.Sums.{total, total-nil, total-cons}
+use Rattle.factorisation.specs.Sums.{total, total-cons}
 use Rattle.factorisation.specs.Irreducible.{different-coprime}
 use Rattle.factorisation.specs.MonicDivisors.{IsMonic}
 use Rattle.factorisation.specs.LongestLists.{Part, Apart, whole, size}
@@ -28,7 +29,7 @@ use Rattle.theorems.specs.Irreducibles.{irreducible-poly}
 use Rattle.theorems.specs.PowersOnly.{different-bases}
 use Rattle.theorems.specs.Reductions.{barred, bar-poly, digits-monic}
 use Rattle.theorems.specs.Items.{powers-are, items}
-use Rattle.theorems.specs.ListExtension.{square-large, extension}
+use Rattle.theorems.specs.ListExtension.{extension}
 use Rattle.theorems.specs.DifferentMembers.{different-append}
 use Rattle.theorems.specs.AnswerLayout.{listOf-cons}
 use Rattle.theorems.specs.PartForm.{PartOver, part-over, base-monic}

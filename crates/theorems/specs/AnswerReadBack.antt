@@ -4,9 +4,9 @@ use mathlib.Core.Path.{_≡_, refl}
 use mathlib.Core.List.{List, [], _∷_, _++_, append-assoc, append-nil, flatMap}
 use mathlib.Core.List.{List·Memᴰ·head as here}
 use Prim.Native.Nat.{ℕ, _*_}
-use lib.ListN.{take, replicate}
+use lib.ListN.{replicate}
 use Rattle.specification.specs.Lists.{first}
-use Rattle.specification.specs.Polynomials.{degree, monomial}
+use Rattle.specification.specs.Polynomials.{monomial}
 use Rattle.specification.specs.Parts.{Factor, Part}
 use Rattle.specification.specs.Totals.{copies, listOf, total, different}
 use Rattle.specification.specs.Sheets.{Sheet}
@@ -109,10 +109,6 @@ total-parts j (P ∷ Ps) bytes = simp (partBytes-cons, total-part, append-assoc,
 -- ---- a sheet's answer
 
 module _ (s : Sheet) where
-  pub answer-begins : take 4 (answer s) ≡ 0x01 ∷ s .prime ∷ 0x02 ∷ degree (s .poly) ∷ []
-  unfolding answer
-  answer-begins = refl
-
   pub list-back : {n : ℕ} → MonicFactors n (sheetParts s) → factorList (answer s) ≡ listOf (sheetParts s)
   unfolding factorList
   list-back h =

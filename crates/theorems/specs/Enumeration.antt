@@ -1,11 +1,11 @@
 -- The specification's lists of all polynomials modulo p: `polynomials p k`, those of k coefficients; `monicsTo p d`, the monic ones of degree 1 to d.
 -- Proves that they hold exactly these, in the order of item 3. Assumes nothing.
-use mathlib.Core.Path.{_≡_, refl, sym, _∙_, ap, ap₂, subst}
-use mathlib.Core.List.{List, [], _∷_, _++_, map, Memᴰ·of-map, Memᴰ·map, Memᴰ·cast, List·Memᴰ·append-cases, Memᴰ·append-left, Memᴰ·append-right}
-use mathlib.Core.List.{List·Memᴰ·head as here, List·Memᴰ·tail as there}
+use mathlib.Core.Path.{_≡_, refl, _∙_, ap, subst}
+use mathlib.Core.List.{[], _∷_, _++_, map, Memᴰ·of-map, Memᴰ·map, Memᴰ·cast, List·Memᴰ·append-cases, Memᴰ·append-left, Memᴰ·append-right}
+use mathlib.Core.List.{List·Memᴰ·head as here}
 use mathlib.Core.Logic.{_⊎_, inl, inr, ⊎-elim}
 use Prim.Native.Nat.{ℕ, zero, suc, _≤_, _<_, _+_}
-use native.Mathlib.Nat.{suc-add, add-suc, add-zero, zero-add, eq-or-lt-of-le}
+use native.Mathlib.Nat.{eq-or-lt-of-le}
 use native.Mathlib.Omega.{arith}
 use lib.ListN.{length, getD, take, length-append}
 use lib.Seq.{length-take-le}
@@ -16,7 +16,7 @@ use Rattle.specification.specs.Claims.{Smaller, Before}
 use Rattle.algebra.specs.CoefficientLists.{Reduced}
 use Rattle.algebra.specs.ListLaws.{upFrom-member, upFrom-has}
 use Rattle.algebra.specs.ListShapes.{low-take}
-use Rattle.factorisation.specs.Members.{_∈_, All}
+use Rattle.factorisation.specs.Members.{_∈_}
 use Rattle.theorems.specs.MonicLists.{MonicList}
 use Rattle.factorisation.specs.InOrder.{InOrder, in-order-by, in-order-append, in-order-map, in-order-flatMap, mem-flatMap, flatMap-mem}
 

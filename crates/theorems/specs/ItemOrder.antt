@@ -1,11 +1,10 @@
 -- The order of item 3 on monic polynomials: by degree, then by coefficients from the highest power down.
 -- Proves that it is a strict order. Assumes nothing.
-use mathlib.Core.Path.{_≡_, sym, _∙_, subst}
+use mathlib.Core.Path.{sym, _∙_, subst}
 use mathlib.Core.List.{[], _∷_}
 use mathlib.Core.Logic.{_⊎_, inl, inr, ⊎-elim}
-use Prim.Native.Nat.{_<_}
 use native.Mathlib.Omega.{arith}
-use Rattle.specification.specs.Polynomials.{Poly, degree}
+use Rattle.specification.specs.Polynomials.{Poly}
 use Rattle.specification.specs.Claims.{Smaller, Before}
 use Rattle.factorisation.specs.InOrder.{StrictOrder}
 

@@ -4,14 +4,14 @@ use mathlib.Core.Path.{_≡_, sym, _∙_, ap, subst}
 use Prim.Native.Nat.{ℕ, _<_, _*_ as _*ℕ_, _%_}
 use native.Mathlib.Nat.{mod-eq-of-lt}
 use native.Mathlib.Omega.{arith}
-use lib.ListN.{length, getD}
+use lib.ListN.{length}
 use Rattle.specification.specs.Polynomials as spec
 use Rattle.specification.specs.Powers.{Power, powers, primary}
 use Rattle.specification.specs.Claims as claims
-use Rattle.algebra.specs.Ring.{CommRing}
+use Rattle.algebra.specs.Numbers.{square-large}
 use Rattle.algebra.specs.Residues.{Residues}
 use Rattle.algebra.specs.Polynomials.{PolyRing}
-use Rattle.algebra.specs.Fields.{Prime, prime-pos}
+use Rattle.algebra.specs.Fields.{Prime}
 use Rattle.algebra.specs.CoefficientLists.{poly, poly-mul}
 use Rattle.algebra.specs.ListShapes.{length-reduce, low-reduce, getD-reduce}
 use Rattle.factorisation.specs.Members.{_∈_}
@@ -19,7 +19,7 @@ use Rattle.theorems.specs.MonicLists.{MonicList, from-claims, to-claims}
 use Rattle.theorems.specs.MonicDivision.{exact-multiplies}
 use Rattle.theorems.specs.PowersHold.{powers-hold}
 use Rattle.theorems.specs.PowersOnly.{powers-only}
-use Rattle.theorems.specs.PrimaryHolds.{IsPart, primary-is, part-only, parts-multiply, positive, large², D, mPower}
+use Rattle.theorems.specs.PrimaryHolds.{IsPart, primary-is, part-only, parts-multiply, positive, D, mPower}
 
 -- the bar of a monic list
 pub monic-reduce : {p : ℕ} → 1 < p → {n d : ℕ} {f : spec.Poly} → MonicList n d f → MonicList p d (spec.reduce p f)
@@ -42,7 +42,7 @@ module _ (p : ℕ) (prime : Prime p) {d : ℕ} {f : spec.Poly} (mf : MonicList (
           monic = to-claims (positive p prime mf powers-are P i) (h .monic);
           bar = h .bar;
           cofactor = spec.quotient (p *ℕ p) (primary p f P) f;
-          multiplies = exact-multiplies (large² p prime mf powers-are) (h .monic) mf (h .divides);
+          multiplies = exact-multiplies (square-large p (prime .large)) (h .monic) mf (h .divides);
         };
     partOnly = λ P i q h. part-only p prime mf powers-are P i q (is-part P i q h);
     partsMultiply = parts-multiply p prime mf powers-are;
@@ -50,12 +50,12 @@ module _ (p : ℕ) (prime : Prime p) {d : ℕ} {f : spec.Poly} (mf : MonicList (
     where
       is-part : (P : Power) (i : P ∈ powers p f) (q : spec.Poly) → claims.PrimaryPart p f P q → IsPart p prime mf powers-are P i q
       is-part P i q h = record {
-        monic = subst (λ k. MonicList (p *ℕ p) k q) same (from-claims (omega (arith, large² p prime mf powers-are)) (h .monic));
+        monic = subst (λ k. MonicList (p *ℕ p) k q) same (from-claims (omega (arith, square-large p (prime .large))) (h .monic));
         bar = h .bar;
         divides = (
           poly (p *ℕ p) (h .cofactor),
           (PolyRing (Residues (p *ℕ p))) .*-comm _ _
-              ∙ sym (poly-mul (p *ℕ p) (omega (arith, large² p prime mf powers-are)) q (h .cofactor)) ∙ ap (poly (p *ℕ p)) (h .multiplies),
+              ∙ sym (poly-mul (p *ℕ p) (omega (arith, square-large p (prime .large))) q (h .cofactor)) ∙ ap (poly (p *ℕ p)) (h .multiplies),
         );
       }
         where

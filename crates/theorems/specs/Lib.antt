@@ -1,5 +1,7 @@
 pub mod MonicLists
 pub mod MonicDivision
+pub mod ListEnds
+pub mod Factorisations
 pub mod Enumeration
 pub mod ItemOrder
 pub mod PowersHold
@@ -28,4 +30,10 @@ pub mod AnswerSize
 pub mod Reader
 pub mod AllParts
 pub mod LongestHolds
+pub mod Numberings
+pub mod NumberedLifts
+pub mod PartLists
+pub mod PartSettings
+pub mod JoinedSettings
+pub mod SettingsCounted
 pub mod Term3

@@ -3,10 +3,11 @@
 use mathlib.Core.Path.{_≡_, sym, _∙_, ap, subst}
 use mathlib.Core.List.{map}
 use Prim.Native.Nat.{ℕ, suc, _≤_, _<_, _/_, _*_ as _*ℕ_}
-use native.Mathlib.Nat.{mul-le-mul-left, zero-div, mod-eq-of-lt}
+use native.Mathlib.Nat.{zero-div, mod-eq-of-lt}
 use native.Mathlib.Omega.{arith}
 use lib.ListN.{length, getD}
 use Rattle.specification.specs.Polynomials as spec
+use Rattle.algebra.specs.Numbers.{square-large}
 use Rattle.algebra.specs.Residues.{residue, Residues, value-residue}
 use Rattle.algebra.specs.Polynomials.{PolyRing, _+_, _·_, constant, poly-ext}
 use Rattle.algebra.specs.Degree.{Below, Monic, monic-add}
@@ -19,9 +20,6 @@ use Rattle.theorems.specs.MonicLists.{MonicList, monic-poly, monic-reduc
 use Rattle.theorems.specs.Reductions.{coefficients, barred, bar-poly, poly-lift}
 
 module _ (p : ℕ) (large : 1 < p) where
-  pub square-large : 1 < p *ℕ p
-  square-large = omega (arith, mul-le-mul-left p (let l : 1 ≤ p = omega arith in l))
-
   -- ℤ/p²[x] → ℤ/p[x]
   abbrev pub extension : Extension (PolyRing (Residues (p *ℕ p))) (PolyRing (Residues p)) (barred p large)
   extension = poly-extension (coefficients p large)
@@ -34,11 +32,11 @@ module _ (p : ℕ) (large : 1 < p) where
   pub lift-list-monic : {d : ℕ} {q : spec.Poly} → MonicList (p *ℕ p) d q → (t : spec.Poly) → length t ≤ suc d → Below d (poly p t)
       → MonicList (p *ℕ p) d (spec.lift p q t)
   lift-list-monic {d} {q} m t l b =
-      monic-reduced square-large
+      monic-reduced (square-large p large)
       (record {
         len = unfold spec.lift in
             length-add (p *ℕ p) q (spec.scale (p *ℕ p) p t) (omega (arith, length-scale (p *ℕ p) p t, m .reduced .len)) ∙ m .reduced .len;
-        low = unfold spec.lift spec.add in low-reduce (p *ℕ p) (omega (arith, square-large)) _;
+        low = unfold spec.lift spec.add in low-reduce (p *ℕ p) (omega (arith, square-large p large)) _;
       })
       (subst (Monic d) (sym (lift-is q t))
       (monic-add (monic-poly m) (rw multiple (below-π (coefficients p large) (below-lift (coefficients p large) b)))))
@@ -56,6 +54,6 @@ module _ (p : ℕ) (large : 1 < p) where
           coef-part (coefficients p large) (poly (p *ℕ p) f) k
           ∙ ap ((coefficients p large) .part) (coef-poly (p *ℕ p) f k)
           ∙ residue-part p (omega arith) (residue (p *ℕ p) (getD f k 0))
-          ∙ ap (λ (a : ℕ). residue (p *ℕ p) (a / p)) (value-residue (p *ℕ p) (omega (arith, square-large)) (getD f k 0) ∙ mod-eq-of-lt (low k))
+          ∙ ap (λ (a : ℕ). residue (p *ℕ p) (a / p)) (value-residue (p *ℕ p) (omega (arith, square-large p large)) (getD f k 0) ∙ mod-eq-of-lt (low k))
           ∙ ap (residue (p *ℕ p)) (sym (getD-map (λ (a : ℕ). a / p) (zero-div p) f k))
           ∙ sym (coef-poly (p *ℕ p) (map (λ (a : ℕ). a / p) f) k)

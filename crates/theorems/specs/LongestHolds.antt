@@ -2,7 +2,7 @@
 -- Proves `longest` and `part-longest` from the theory of longest lists. Assumes nothing.
 use mathlib.Core.Path.{_≡_, refl, sym, _∙_, ap, subst}
 use mathlib.Core.List.{List, [], _∷_, map, flatMap, append-nil, map-map, Memᴰ·map}
-use Prim.Native.Nat.{ℕ, _≤_, _<_, _+_ as _+ℕ_, _*_ as _*ℕ_}
+use Prim.Native.Nat.{ℕ, _≤_, _<_, _*_ as _*ℕ_}
 use native.Mathlib.Omega.{arith}
 use lib.ListN.{length, length-map}
 use Rattle.specification.specs.Polynomials as spec
@@ -10,6 +10,7 @@ use Rattle.specification.specs.Powers.{Power, powers, primary}
 use Rattle.specification.specs.Parts.{partOf, partsOf}
 use Rattle.specification.specs.Totals.{members, listOf, total, different}
 use Rattle.specification.specs.Claims as claims
+use Rattle.algebra.specs.Numbers.{square-large}
 use Rattle.algebra.specs.Ring.{CommRing, mul-one}
 use Rattle.algebra.specs.Divisibility.{product, product-nil, product-cons}
 use Rattle.algebra.specs.Residues.{Residues}
@@ -19,18 +20,30 @@ use Rattle.algebra.specs.Homomorphisms.{monic-map}
 use Rattle.algebra.specs.Fields.{Prime, residue-nontrivial}
 use Rattle.algebra.specs.CoefficientLists.{ℤ[x]/, poly, poly-mul, poly-product}
 use Rattle.factorisation.specs.Members.{_∈_, All, all-cons, all-map}
-use Rattle.factorisation.specs.Distinct.{distinct}
-use Rattle.factorisation.specs.MonicDivisors.{IsMonic, monics, divisor-degree, monic-degree}
+use Rattle.factorisation.specs.MonicDivisors.{IsMonic, monics, divisor-degree}
 use Rattle.factorisation.specs.Monics.{MonicMap}
-use Rattle.factorisation.specs.LongestLists.{Part, Apart, FactorList, LongestList, Proper, whole, size, length-at-most, no-product}
+use Rattle.factorisation.specs.LongestLists.{Part, Apart, FactorList, LongestList, Proper, whole, length-at-most, no-product}
 use Rattle.factorisation.specs.FewestDifferent.{different-at-least}
-use Rattle.theorems.specs.MonicLists.{MonicList, monic-poly, monic-same, monic-list-mul, from-claims}
-use Rattle.theorems.specs.MonicDivision.{monic-list-one, monic-list-product}
+use Rattle.theorems.specs.MonicLists.{MonicList, monic-poly, from-claims}
+use Rattle.theorems.specs.MonicDivision.{monic-list-product}
+use Rattle.theorems.specs.Factorisations.{monic-equal, factorisation, factorisation-product}
 use Rattle.theorems.specs.Reductions.{coefficients, barred}
 use Rattle.theorems.specs.Items.{powers-are, items}
-use Rattle.theorems.specs.ListExtension.{square-large, extension}
+use Rattle.theorems.specs.ListExtension.{extension}
 use Rattle.theorems.specs.DifferentMembers.{decide, different-polys}
-use Rattle.theorems.specs.AllParts.{Known, known, list-over, ring-parts, monic-parts, parts-apart, whole-is, list-product, list-size, list-different, list-monic}
+use Rattle.theorems.specs.AllParts.{
+  Known,
+  known,
+  list-over,
+  ring-parts,
+  monic-parts,
+  parts-apart,
+  whole-is,
+  list-product,
+  list-size,
+  list-different,
+  list-monic,
+}
 
 module _ (p : ℕ) (prime : Prime p) {d : ℕ} {f : spec.Poly} (mf : MonicList (p *ℕ p) d f) where
   abbrev 𝓐 : CommRing (ℤ[x]/ (p *ℕ p))
@@ -55,11 +68,6 @@ module _ (p : ℕ) (prime : Prime p) {d : ℕ} {f : spec.Poly} (mf : MonicList (
         m .positive,
         divisor-degree (residue-nontrivial large) (monic-map ((coefficients p large) .hom) (monic-poly (is-monic m))) monic-one v,
       )
-
-  same-monic : (a b : spec.Poly) → claims.Monic (p *ℕ p) a → claims.Monic (p *ℕ p) b → poly (p *ℕ p) a ≡ poly (p *ℕ p) b → a ≡ b
-  same-monic a b m n e =
-      monic-same (monic-degree (residue-nontrivial (square-large p large)) (monic-poly (is-monic m)) (rw e (monic-poly (is-monic n))))
-      (is-monic m) (is-monic n) e
 
   monic-map-of : MonicMap 𝓐 (PolyRing (Residues p)) (barred p large) IsMonic IsMonic
   monic-map-of = record {
@@ -86,7 +94,7 @@ module _ (p : ℕ) (prime : Prime p) {d : ℕ} {f : spec.Poly} (mf : MonicList (
     -- a list that multiplies to F
     factors-F : {M : List spec.Poly} → claims.Factorisation (p *ℕ p) F M → FactorList (extension p large) Q (map (poly (p *ℕ p)) M)
     factors-F {M} l = record {
-      factors = sym (poly-product (p *ℕ p) positive M) ∙ ap (poly (p *ℕ p)) (l .multiplies) ∙ sym whole-F;
+      factors = factorisation-product (square-large p large) l ∙ sym whole-F;
       proper = all-map (Proper (extension p large)) (poly (p *ℕ p)) M (λ q i. proper q (l .monic q i));
     }
 
@@ -97,13 +105,8 @@ module _ (p : ℕ) (prime : Prime p) {d : ℕ} {f : spec.Poly} (mf : MonicList (
     L-monic : All (claims.Monic (p *ℕ p)) L
     L-monic = list-monic p prime mf Ps h
 
-    L-multiplies : spec.product (p *ℕ p) L ≡ F
-    L-multiplies =
-        let (k, m) = monic-list-product (square-large p large) L (λ q i. (spec.degree q, is-monic (L-monic q i))) in
-        monic-same (monic-degree (residue-nontrivial (square-large p large)) (monic-poly m) (rw same (monic-poly mF))) m mF same
-      where
-        same : poly (p *ℕ p) (spec.product (p *ℕ p) L) ≡ poly (p *ℕ p) F
-        same = poly-product (p *ℕ p) positive L ∙ list-product p prime mf Ps h ∙ whole-F
+    L-list : claims.Factorisation (p *ℕ p) F L
+    L-list = factorisation (square-large p large) mF L L-monic (list-product p prime mf Ps h ∙ whole-F)
 
     -- a list as long
     longest-list : {M : List spec.Poly} → claims.Factorisation (p *ℕ p) F M → length M ≡ length L
@@ -118,18 +121,18 @@ module _ (p : ℕ) (prime : Prime p) {d : ℕ} {f : spec.Poly} (mf : MonicList (
           different-at-least (extension p large) monic-map-of apart (longest-list l n)
               (all-map IsMonic (poly (p *ℕ p)) M (λ q i. (spec.degree q, monic-poly (is-monic (l .monic q i)))))
               (monic-parts p prime mf Ps h) (decide (p *ℕ p)),
-          different-polys (p *ℕ p) M (λ a b i j. same-monic a b (l .monic a i) (l .monic b j)),
+          different-polys (p *ℕ p) M (λ a b i j. monic-equal (square-large p large) (is-monic (l .monic a i)) (is-monic (l .monic b j))),
         )
 
     pub longest-over : claims.Longest (p *ℕ p) F (list-over p prime mf Ps) (length (list-over p prime mf Ps)) (different (list-over p prime mf Ps))
     longest-over = record {
-      multiplies = L-multiplies;
+      multiplies = L-list .multiplies;
       total = refl;
       differentTotal = refl;
       irreducible = λ q i. record {
         monic = L-monic q i;
         noProduct = λ a b m n k.
-            no-product (extension p large) apart (longest-list (record { monic = L-monic; multiplies = L-multiplies }) refl)
+            no-product (extension p large) apart (longest-list L-list refl)
             (poly (p *ℕ p) q) (Memᴰ·map (poly (p *ℕ p)) i) (poly (p *ℕ p) a) (poly (p *ℕ p) b) (proper a m) (proper b n)
             (ap (poly (p *ℕ p)) (sym k) ∙ poly-mul (p *ℕ p) positive a b);
       };
@@ -156,9 +159,7 @@ module _ (p : ℕ) (prime : Prime p) {d : ℕ} {f : spec.Poly} (mf : MonicList (
       one : spec.product (p *ℕ p) (primary p f P ∷ []) ≡ primary p f P
       one =
           let m = known p prime mf P i .over .monic in
-          let D : ℕ = P .exponent *ℕ spec.degree (P .base) in
-          let once : MonicList (p *ℕ p) (D +ℕ 0) (spec.product (p *ℕ p) (primary p f P ∷ [])) =
-          unfold spec.product in monic-list-mul (square-large p large) m (monic-list-one (square-large p large)) in
-          monic-same (let s : D +ℕ 0 ≡ D = omega arith in s) once m
+          let once = monic-list-product (square-large p large) (primary p f P ∷ []) (all-cons (P .exponent *ℕ spec.degree (P .base), m) (λ q j. elim j [ ])) in
+          monic-equal (square-large p large) (once .1) m
           (poly-product (p *ℕ p) positive (primary p f P ∷ []) ∙ product-cons 𝓐 _ _ ∙ ap (λ a. poly (p *ℕ p) (primary p f P) · a) (product-nil 𝓐)
           ∙ mul-one 𝓐 (poly (p *ℕ p) (primary p f P)))

@@ -1,7 +1,7 @@
 -- Divisors among monic coefficient lists: `Divides n g f` is divisibility of the polynomials.
 -- Proves that the specification's `divides` decides it, that an exact quotient is a monic list again and multiplies back to f,
 -- and what `highest` finds. Assumes nothing.
-use mathlib.Core.Path.{_≡_, refl, sym, _∙_, ap, subst}
+use mathlib.Core.Path.{_≡_, refl, sym, _∙_, subst}
 use mathlib.Core.Bool.{Bool, true, false}
 use Prim.Native.Nat.{ℕ, zero, suc, _≤_, _<_, _-_, _+_ as _+ℕ_, _*_ as _*ℕ_}
 use mathlib.Core.Logic.{⊎-elim}
@@ -9,19 +9,18 @@ use native.Mathlib.Nat.{zero-mul, suc-mul, add-comm, eq-or-lt-of-le}
 use native.Mathlib.Omega.{arith}
 use mathlib.Core.List.{List, [], _∷_}
 use mathlib.Core.List.{List·Memᴰ·head as here}
-use lib.ListN.{length, getD}
+use lib.ListN.{getD}
 use lib.Dec.{T}
 use Rattle.specification.specs.Polynomials as spec
 use Rattle.specification.specs.Powers.{highest}
-use Rattle.algebra.specs.Ring.{CommRing}
 use Rattle.algebra.specs.Divisibility.{_∣_, one-divides}
 use Rattle.algebra.specs.Residues.{Residues}
 use Rattle.algebra.specs.Polynomials.{PolyRing, _·_}
 use Rattle.algebra.specs.Degree.{Monic}
 use Rattle.algebra.specs.Leading.{monic-cofactor}
 use Rattle.algebra.specs.Fields.{residue-discrete, residue-nontrivial}
-use Rattle.algebra.specs.CoefficientLists.{poly, Reduced, poly-mul, poly-pow, poly-one}
-use Rattle.algebra.specs.ListDivision.{division-law, length-quotient, low-quotient, divides-sound, divides-complete, divides-exact}
+use Rattle.algebra.specs.CoefficientLists.{poly, poly-mul, poly-one}
+use Rattle.algebra.specs.ListDivision.{length-quotient, low-quotient, divides-sound, divides-complete, divides-exact}
 use Rattle.factorisation.specs.Members.{All, all-tail}
 use Rattle.theorems.specs.MonicLists.{MonicList, monic-poly, monic-reduced, monic-list-mul, monic-same}
 
@@ -52,7 +51,8 @@ module _ {n : ℕ} (large : 1 < n) where
     pub law : poly n (spec.quotient n g f) · poly n g ≡ poly n f
 
   pub exact : {e d : ℕ} {g f : spec.Poly} → MonicList n e g → MonicList n d f → Divides n g f → Exact e d g f
-  exact {e} {d} {g} {f} mg mf v = make (monic-cofactor (residue-discrete n) (residue-nontrivial large) (poly n q) (poly n g) (monic-poly mg) (subst (Monic d) (sym law) (monic-poly mf)))
+  exact {e} {d} {g} {f} mg mf v =
+      make (monic-cofactor (residue-discrete n) (residue-nontrivial large) (poly n q) (poly n g) (monic-poly mg) (subst (Monic d) (sym law) (monic-poly mf)))
     where
       q : spec.Poly
       q = spec.quotient n g f
@@ -111,7 +111,8 @@ module _ {n : ℕ} (large : 1 < n) where
           above : (j : ℕ) → highest n g f k < j → j ≤ suc k → Divides n (spec.pow n g j) f → ⊥
           above j l u v =
               ⊎-elim
-              (λ q. subst T e (divides-complete n pos _ (spec.pow n g (suc k)) (m .reduced .len) (monic-poly m) f (subst (λ i. Divides n (spec.pow n g i) f) q v)))
+              (λ q. subst T e (divides-complete n pos _ (spec.pow n g (suc k)) (m .reduced .len) (monic-poly m) f
+              (subst (λ i. Divides n (spec.pow n g i) f) q v)))
               (λ q. h .top j l (omega arith) v) (eq-or-lt-of-le u)
 
   pub monic-list-product : (l : List spec.Poly) → All (λ q. (d : ℕ) × MonicList n d q) l → (d : ℕ) × MonicList n d (spec.product n l)

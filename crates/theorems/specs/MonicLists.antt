@@ -11,7 +11,7 @@ use lib.ListN.{length, getD, List·getD-eq-default}
 use Rattle.specification.specs.Polynomials.{Poly, degree, mul, times}
 use Rattle.specification.specs.Claims as claims
 use Rattle.algebra.specs.Numbers.{lt-or-le}
-use Rattle.algebra.specs.Residues.{ℤ/, residue, Residues, residue-value, residue-one, value-below, same-remainder}
+use Rattle.algebra.specs.Residues.{ℤ/, residue, residue-value, residue-one, value-below, same-remainder}
 use Rattle.algebra.specs.Polynomials.{poly-ext, tail, coef-tail}
 use Rattle.algebra.specs.Degree.{Below, Monic, monic-mul}
 use Rattle.algebra.specs.CoefficientLists.{ℤ[x]/, poly, Reduced, coef-poly, below-poly, poly-mul, same-list}

@@ -11,6 +11,7 @@ use Rattle.specification.specs.Polynomials as spec
 use Rattle.specification.specs.Powers.{Power}
 use Rattle.specification.specs.Parts.{hBar, m1, w}
 use Rattle.specification.specs.Claims as claims
+use Rattle.algebra.specs.Numbers.{square-large}
 use Rattle.algebra.specs.Ring.{CommRing, linear1, add-neg, zero-mul}
 use Rattle.algebra.specs.Identities.{con, _⊕_, _⊖_, _⊗_, _≈_, solve}
 use Rattle.algebra.specs.Divisibility.{_∣_, pow}
@@ -27,7 +28,7 @@ use Rattle.factorisation.specs.PolynomialExtension.{below-part}
 use Rattle.theorems.specs.MonicLists.{MonicList, monic-poly, from-claims}
 use Rattle.theorems.specs.MonicDivision.{Divides, Highest, highest-is, monic-list-pow}
 use Rattle.theorems.specs.Reductions.{coefficients, barred, bar-poly, digits-monic}
-use Rattle.theorems.specs.ListExtension.{square-large, extension, part-list}
+use Rattle.theorems.specs.ListExtension.{extension, part-list}
 
 -- items 1 and 2: a monic part modulo p² whose bar is the m-th power of an irreducible G
 pub record PartOver (p : ℕ) (G : spec.Poly) (m : ℕ) (part : spec.Poly) : Type 0 where

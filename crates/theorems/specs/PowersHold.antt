@@ -2,19 +2,19 @@
 -- Proves that the specification's powers of a monic list have irreducible bases in order, exponents of 1 or more, and the right product.
 -- Assumes nothing.
 use mathlib.Core.Path.{_≡_, refl, sym, _∙_, ap, ap₂, subst}
-use mathlib.Core.List.{List, [], _∷_, _++_, map, append-assoc, append-nil, List·Memᴰ·cases-cons, List·Memᴰ·append-cases, List·Memᴰ·eq-of-singleton, Memᴰ·append-left, Memᴰ·append-right}
+use mathlib.Core.List.{List, [], _∷_, _++_, map, append-assoc, List·Memᴰ·cases-cons, List·Memᴰ·append-cases, List·Memᴰ·eq-of-singleton, Memᴰ·append-right}
 use mathlib.Core.List.{List·Memᴰ·head as here, List·Memᴰ·tail as there}
-use mathlib.Core.Logic.{_⊎_, inl, inr, ⊎-elim}
+use mathlib.Core.Logic.{_⊎_, ⊎-elim}
 use Prim.Native.Nat.{ℕ, zero, suc, _≤_, _<_, _-_, _+_ as _+ℕ_, _*_ as _*ℕ_}
 use native.Mathlib.Nat.{suc-mul, zero-mul}
 use native.Mathlib.Omega.{arith}
-use lib.ListN.{length, getD}
+use lib.ListN.{length}
 use Rattle.specification.specs.Polynomials as spec
 use Rattle.specification.specs.Powers.{Power, listed, powersAmong, powers, highest, monicsTo}
 use Rattle.specification.specs.Claims as claims
 use Rattle.algebra.specs.Numbers.{lt-or-le}
-use Rattle.algebra.specs.Ring.{CommRing, mul-one}
-use Rattle.algebra.specs.Divisibility.{_∣_, divides-refl, divides-trans, divides-mul}
+use Rattle.algebra.specs.Ring.{mul-one}
+use Rattle.algebra.specs.Divisibility.{divides-refl, divides-trans}
 use Rattle.algebra.specs.Residues.{Residues}
 use Rattle.algebra.specs.Polynomials.{PolyRing, _·_}
 use Rattle.algebra.specs.ListShapes.{length-reduce}
@@ -22,7 +22,7 @@ use Rattle.algebra.specs.CoefficientLists.{poly, poly-mul, poly-one}
 use Rattle.factorisation.specs.Members.{_∈_, All}
 use Rattle.factorisation.specs.InOrder.{InOrder}
 use Rattle.theorems.specs.MonicLists.{MonicList, from-claims, to-claims, monic-same, monic-list-mul, monic-list-zero}
-use Rattle.theorems.specs.MonicDivision.{Divides, Exact, exact, exact-multiplies, Highest, highest-is, monic-list-pow, monic-list-one}
+use Rattle.theorems.specs.MonicDivision.{Divides, Exact, exact, exact-multiplies, Highest, highest-is, monic-list-pow}
 use Rattle.theorems.specs.Enumeration.{monicsTo-member, monicsTo-has, monicsTo-in-order}
 
 module _ (p : ℕ) (large : 1 < p) (n : ℕ) where
@@ -65,11 +65,14 @@ module _ (p : ℕ) (large : 1 < p) (n : ℕ) where
     where
       no-product : (a b : spec.Poly) → claims.Monic p a → claims.Monic p b → spec.mul p a b ≡ G → ⊥
       no-product a b ma mb q =
-          ⊎-elim (λ h. omega (arith, ap length h, degrees, mb .positive, ma .positive)) (λ i. ⊎-elim (λ k. omega (arith, degrees, mb .positive, k)) (λ k. omega (arith, degrees, mb .positive, k .0)) (later a i))
-          (List·Memᴰ·cases-cons (to-come t (from-claims (omega arith) ma) (ma .positive) (omega (arith, degrees, m .reduced .len)) (divides-trans (PolyRing (Residues p)) factor v)))
+          ⊎-elim (λ h. omega (arith, ap length h, degrees, mb .positive, ma .positive))
+          (λ i. ⊎-elim (λ k. omega (arith, degrees, mb .positive, k)) (λ k. omega (arith, degrees, mb .positive, k .0)) (later a i))
+          (List·Memᴰ·cases-cons (to-come t (from-claims (omega arith) ma) (ma .positive) (omega (arith, degrees, m .reduced .len))
+          (divides-trans (PolyRing (Residues p)) factor v)))
         where
           degrees : spec.degree a +ℕ spec.degree b ≡ spec.degree G
-          degrees = omega (arith, m .reduced .len, monic-list-mul large (from-claims (omega arith) ma) (from-claims (omega arith) mb) .reduced .len, ap length q)
+          degrees =
+              omega (arith, m .reduced .len, monic-list-mul large (from-claims (omega arith) ma) (from-claims (omega arith) mb) .reduced .len, ap length q)
 
           factor : Divides p a G
           factor = (poly p b, (PolyRing (Residues p)) .*-comm (poly p b) (poly p a) ∙ sym (poly-mul p (omega arith) a b) ∙ ap (poly p) q)
@@ -102,7 +105,8 @@ module _ (p : ℕ) (large : 1 < p) (n : ℕ) where
 
     taken-out : Divides p G rest → ⊥
     taken-out (q, h) =
-        ⊎-elim (λ l. top .top (suc k) (omega arith) l next) (λ l. omega (arith, exact large (monic-list-pow large mG (suc k)) mf next .low, mf .reduced .len, suc-mul k e, mul-le k))
+        ⊎-elim (λ l. top .top (suc k) (omega arith) l next) (λ l. omega
+        (arith, exact large (monic-list-pow large mG (suc k)) mf next .low, mf .reduced .len, suc-mul k e, mul-le k))
         (lt-or-le k (spec.degree f))
       where
         next : Divides p (spec.pow p G (suc k)) f
@@ -120,7 +124,8 @@ module _ (p : ℕ) (large : 1 < p) (n : ℕ) where
     pub tried-more : Tried (Cs ++ (G ∷ [])) Gs rest
     tried-more = record {
       all = append-assoc Cs (G ∷ []) Gs ∙ t .all;
-      gone = λ H i v. ⊎-elim (λ j. t .gone H j (rest-divides H v)) (λ j. taken-out (subst (λ x. Divides p x rest) (List·Memᴰ·eq-of-singleton j) v)) (List·Memᴰ·append-cases Cs i);
+      gone = λ H i v. ⊎-elim (λ j. t .gone H j (rest-divides H v)) (λ j. taken-out (subst (λ x. Divides p x rest) (List·Memᴰ·eq-of-singleton j) v))
+          (List·Memᴰ·append-cases Cs i);
     }
 
     later-found : All (claims.Before G) Gs → {Ps : List Power} → Found Gs rest Ps → Found (G ∷ Gs) f (listed G k ++ Ps)
@@ -132,12 +137,17 @@ module _ (p : ℕ) (large : 1 < p) (n : ℕ) where
         all-left : k ≡ 0 → rest ≡ f
         all-left z =
             monic-same (let q : d - k *ℕ e ≡ d = omega (arith, ap (λ (i : ℕ). i *ℕ e) z, zero-mul e) in q) (out .monic) mf
-            (sym (mul-one (PolyRing (Residues p)) (poly p rest)) ∙ ap (λ a. poly p rest · a) (sym (ap (λ i. poly p (spec.pow p G i)) z ∙ (unfold spec.pow in poly-one p))) ∙ out .law)
+            (sym (mul-one (PolyRing (Residues p)) (poly p rest))
+            ∙ ap (λ a. poly p rest · a) (sym (ap (λ i. poly p (spec.pow p G i)) z ∙ (unfold spec.pow in poly-one p))) ∙ out .law)
 
         irreducible : (j : ℕ) → k ≡ suc j → claims.Irreducible p G
         irreducible j z =
             found-irreducible mG low high later t
-            (divides-trans (PolyRing (Residues p)) (poly p (spec.pow p G j), (PolyRing (Residues p)) .*-comm _ _ ∙ sym (poly-next j)) (subst (λ i. Divides p (spec.pow p G i) f) z (top .divides)))
+            (divides-trans (PolyRing (Residues p)) (
+              poly p (spec.pow p G j),
+              (PolyRing (Residues p)) .*-comm _ _
+                  ∙ sym (poly-next j),
+            ) (subst (λ i. Divides p (spec.pow p G i) f) z (top .divides)))
 
         go : (j : ℕ) → k ≡ j → Found (G ∷ Gs) f (listed G j ++ Ps)
         go zero z = unfold listed in record {
@@ -149,13 +159,15 @@ module _ (p : ℕ) (large : 1 < p) (n : ℕ) where
         }
         go (suc j) z = unfold listed in record {
           among = λ P i. ⊎-elim (λ q. here (ap (λ (Q : Power). Q .base) q)) (λ h. there (F .among P h)) (List·Memᴰ·cases-cons i);
-          irreducible = λ P i. ⊎-elim (λ q. subst (λ (Q : Power). claims.Irreducible p (Q .base)) (sym q) (irreducible j z)) (F .irreducible P) (List·Memᴰ·cases-cons i);
+          irreducible =
+              λ P i. ⊎-elim (λ q. subst (λ (Q : Power). claims.Irreducible p (Q .base)) (sym q) (irreducible j z)) (F .irreducible P) (List·Memᴰ·cases-cons i);
           positive = λ P i. ⊎-elim (λ q. subst (λ (Q : Power). 1 ≤ Q .exponent) (sym q) (omega arith)) (F .positive P) (List·Memᴰ·cases-cons i);
           inOrder = ((λ Q i. later (Q .base) (F .among Q i)), F .inOrder);
           multiplies = unfold spec.product in ap₂ (λ (i : ℕ) (g : spec.Poly). spec.mul p (spec.pow p G i) g) (sym z) (F .multiplies) ∙ whole;
         }
 
-  found : (Gs Cs : List spec.Poly) {f : spec.Poly} {d : ℕ} → MonicList p d f → d ≤ n → InOrder claims.Before Gs → Tried Cs Gs f → Found Gs f (powersAmong p Gs f)
+  found : (Gs Cs : List spec.Poly) {f : spec.Poly} {d : ℕ} → MonicList p d f → d ≤ n → InOrder claims.Before Gs → Tried Cs Gs f
+      → Found Gs f (powersAmong p Gs f)
   unfolding powersAmong
   found [] Cs mf fits s t = found-none mf fits t
   found (G ∷ Gs) Cs {f} {d} mf fits (later, s) t =

@@ -1,6 +1,6 @@
 -- Item 1, "in one way": only one list has irreducible bases in order, exponents of 1 or more, and a given product.
 -- Assumes nothing.
-use mathlib.Core.Path.{_≡_, refl, sym, _∙_, ap, ap₂, subst}
+use mathlib.Core.Path.{_≡_, sym, _∙_, ap, ap₂, subst}
 use mathlib.Core.List.{List, [], _∷_, map, Memᴰ·map, Memᴰ·of-map, Memᴰ·cast}
 use mathlib.Core.Logic.{_≢_}
 use Prim.Native.Nat.{ℕ, _≤_, _<_}
@@ -11,14 +11,14 @@ use Rattle.specification.specs.Claims as claims
 use Rattle.algebra.specs.Divisibility.{product-nil, product-cons}
 use Rattle.algebra.specs.Residues.{Residues}
 use Rattle.algebra.specs.Polynomials.{PolyRing, _·_}
-use Rattle.algebra.specs.Fields.{Prime, residue-field, residue-nontrivial}
+use Rattle.algebra.specs.Fields.{Prime, residue-field}
 use Rattle.algebra.specs.CoefficientLists.{ℤ[x]/, poly, poly-mul, poly-pow, poly-one}
 use Rattle.factorisation.specs.Members.{_∈_, all-map}
 use Rattle.factorisation.specs.InOrder.{StrictOrder, InOrder, in-order-by, in-order-map, in-order-unique}
-use Rattle.factorisation.specs.MonicDivisors.{monic-degree}
 use Rattle.factorisation.specs.Irreducible.{Irreducible}
 use Rattle.factorisation.specs.UniqueFactorisation.{powers, Good, same-members}
-use Rattle.theorems.specs.MonicLists.{from-claims, monic-poly, monic-same}
+use Rattle.theorems.specs.MonicLists.{from-claims}
+use Rattle.theorems.specs.Factorisations.{monic-equal}
 use Rattle.theorems.specs.ItemOrder.{item-3}
 use Rattle.theorems.specs.Irreducibles.{irreducible-poly}
 
@@ -45,10 +45,7 @@ module _ (p : ℕ) (prime : Prime p) where
   pair P = (poly p (P .base), P .exponent)
 
   same-base : {G H : spec.Poly} → claims.Monic p G → claims.Monic p H → poly p G ≡ poly p H → G ≡ H
-  same-base {G} {H} m n e =
-      let mG = from-claims (omega (arith, large)) m in
-      let mH = from-claims (omega (arith, large)) n in
-      monic-same (monic-degree (residue-nontrivial large) (monic-poly mG) (rw e (monic-poly mH))) mG mH e
+  same-base m n e = monic-equal large (from-claims (omega (arith, large)) m) (from-claims (omega (arith, large)) n) e
 
   pub different-bases : {G H : spec.Poly} → claims.Monic p G → claims.Monic p H → claims.Before G H → poly p G ≢ poly p H
   different-bases {G} {H} m n b e = item-3 .irreflexive {a = G} (subst (claims.Before G) (sym (same-base m n e)) b)

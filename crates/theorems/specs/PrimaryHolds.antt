@@ -5,13 +5,12 @@ use mathlib.Core.Path.{_≡_, refl, sym, _∙_, ap, ap₂, subst}
 use mathlib.Core.List.{List, [], _∷_, map, Memᴰ·map, Memᴰ·of-map, head-eq-of-cons-eq, tail-eq-of-cons-eq, cons-ne-nil, map-map}
 use mathlib.Core.List.{List·Memᴰ·head as here, List·Memᴰ·tail as there}
 use Prim.Native.Nat.{ℕ, suc, _≤_, _<_, _*_ as _*ℕ_}
-use native.Mathlib.Nat.{mul-pos, mod-eq-of-lt, mul-le-mul-left}
+use native.Mathlib.Nat.{mul-pos, mod-eq-of-lt}
 use native.Mathlib.Omega.{arith}
-use lib.Dec.{T}
 use Rattle.specification.specs.Polynomials as spec
-use Rattle.specification.specs.Powers.{Power, powers, primary, lifts}
+use Rattle.specification.specs.Powers.{Power, primary, lifts}
 use Rattle.specification.specs.Claims as claims
-use Rattle.algebra.specs.Ring.{CommRing}
+use Rattle.algebra.specs.Numbers.{square-large}
 use Rattle.algebra.specs.Divisibility.{_∣_, product}
 use Rattle.algebra.specs.Residues.{ℤ/, residue, Residues, residue-one, value-residue}
 use Rattle.algebra.specs.Polynomials.{PolyRing, _·_}
@@ -19,25 +18,27 @@ use Rattle.algebra.specs.Degree.{Monic}
 use Rattle.algebra.specs.Extension.{residue-lift}
 use Rattle.algebra.specs.Fields.{Prime, residue-field, residue-discrete, residue-nontrivial}
 use Rattle.algebra.specs.Homomorphisms.{monic-map}
-use Rattle.algebra.specs.CoefficientLists.{ℤ[x]/, poly, Reduced, poly-mul, poly-pow, poly-reduce, poly-product, same-list}
+use Rattle.algebra.specs.CoefficientLists.{ℤ[x]/, poly, poly-pow, poly-reduce, poly-product, same-list}
 use Rattle.algebra.specs.ListShapes.{length-reduce, low-reduce}
 use Rattle.algebra.specs.ListLaws.{first-passes}
 use Rattle.algebra.specs.ListDivision.{divides-sound, divides-complete}
 use Rattle.factorisation.specs.Members.{_∈_, all-map, member-divides}
-use Rattle.factorisation.specs.MonicDivisors.{IsMonic, monic-degree}
+use Rattle.factorisation.specs.MonicDivisors.{monic-degree}
 use Rattle.factorisation.specs.UniqueFactorisation.{power, Good}
 use Rattle.factorisation.specs.PrimaryParts.{Lifts, primary-parts, primary-part-unique}
-use Rattle.theorems.specs.MonicLists.{MonicList, list, poly-list, from-claims, to-claims, list-monic, monic-poly, monic-same}
-use Rattle.theorems.specs.MonicDivision.{Divides, exact-multiplies, monic-list-pow, monic-list-product}
+use Rattle.theorems.specs.MonicLists.{MonicList, list, poly-list, from-claims, list-monic, monic-poly, monic-same}
+use Rattle.theorems.specs.MonicDivision.{Divides, monic-list-pow, monic-list-product}
+use Rattle.theorems.specs.Factorisations.{monic-equal}
 use Rattle.theorems.specs.Reductions.{coefficients, barred, bar-poly, lifts-member, lifts-has}
 use Rattle.theorems.specs.PowersOnly.{pair, pairs-good}
 
-module _ (p : ℕ) (prime : Prime p) {d : ℕ} {f : spec.Poly} (mf : MonicList (p *ℕ p) d f) {Ps : List Power} (items : claims.PowersOf p (spec.reduce p f) Ps) where
+module _ (p : ℕ) (prime : Prime p) {d : ℕ} {f : spec.Poly} (mf : MonicList (p *ℕ p) d f) {Ps : List Power}
+    (items : claims.PowersOf p (spec.reduce p f) Ps) where
   large : 1 < p
   large = prime .large
 
-  pub large² : 1 < p *ℕ p
-  large² = omega (arith, mul-le-mul-left p (let l : 1 ≤ p = omega (arith, large) in l), large)
+  abbrev large² : 1 < p *ℕ p
+  large² = square-large p large
 
   F : ℤ[x]/ (p *ℕ p)
   F = poly (p *ℕ p) f
@@ -106,7 +107,8 @@ module _ (p : ℕ) (prime : Prime p) {d : ℕ} {f : spec.Poly} (mf : MonicList (
     -- there is one
     some-part : (q : spec.Poly) × IsPart q
     some-part =
-        let (X, k, e) = Memᴰ·of-map (barred p large) (parts .0) (subst (λ l. power (pair p prime P) ∈ l) (sym (parts .1 .bars)) (Memᴰ·map power (Memᴰ·map (pair p prime) i))) in
+        let (X, k, e) = Memᴰ·of-map (barred p large) (parts .0)
+        (subst (λ l. power (pair p prime P) ∈ l) (sym (parts .1 .bars)) (Memᴰ·map power (Memᴰ·map (pair p prime) i))) in
         let (j, mX) = parts .1 .monic X k in
         let same : j ≡ D = monic-degree (residue-nontrivial large) (rw e at (monic-map ((coefficients p large) .hom) mX)) monic-power in
         (list (suc D) X, part-list X (rw same at mX) e (rw (parts .1 .multiplies) at (member-divides (PolyRing (Residues (p *ℕ p))) k)))
@@ -115,7 +117,8 @@ module _ (p : ℕ) (prime : Prime p) {d : ℕ} {f : spec.Poly} (mf : MonicList (
     unfolding primary
     primary-is =
         let (q, h) = some-part in
-        let (j, t) = first-passes (λ (q : spec.Poly). spec.divides (p *ℕ p) q f) f (lifts p (claims.powerOf p P)) (lifts-has p large mPower q (h .monic) (h .bar))
+        let (j, t) = first-passes (λ (q : spec.Poly). spec.divides (p *ℕ p) q f) f (lifts p (claims.powerOf p P))
+        (lifts-has p large mPower q (h .monic) (h .bar))
         (divides-complete (p *ℕ p) (omega (arith, large²)) D q (h .monic .reduced .len) (monic-poly (h .monic)) f (h .divides)) in
         let (m, b) = lifts-member p large mPower j in
         record { monic = m; bar = b; divides = divides-sound (p *ℕ p) (omega (arith, large²)) D (primary p f P) (m .reduced .len) (monic-poly m) f t }
@@ -126,7 +129,8 @@ module _ (p : ℕ) (prime : Prime p) {d : ℕ} {f : spec.Poly} (mf : MonicList (
         monic-same refl (h .monic) (primary-is .monic)
         (primary-part-unique (coefficients p large) (residue-field p prime) good (pair p prime P) (Memᴰ·map (pair p prime) i)
         (D, monic-poly (h .monic)) (D, monic-poly (primary-is .monic)) (bar-power q (h .bar)) (bar-power (primary p f P) (primary-is .bar))
-        (h .divides .0) (primary-is .divides .0) ((PolyRing (Residues (p *ℕ p))) .*-comm _ _ ∙ h .divides .1) ((PolyRing (Residues (p *ℕ p))) .*-comm _ _ ∙ primary-is .divides .1))
+        (h .divides .0) (primary-is .divides .0) ((PolyRing (Residues (p *ℕ p))) .*-comm _ _
+        ∙ h .divides .1) ((PolyRing (Residues (p *ℕ p))) .*-comm _ _ ∙ primary-is .divides .1))
 
   -- ---- all parts
 
@@ -143,7 +147,7 @@ module _ (p : ℕ) (prime : Prime p) {d : ℕ} {f : spec.Poly} (mf : MonicList (
   parts-multiply =
       let (j, m) = monic-list-product large² (map (primary p f) Ps)
       (all-map (λ q. (e : ℕ) × MonicList (p *ℕ p) e q) (primary p f) Ps (λ P i. (D P i, primary-is P i .monic))) in
-      monic-same (monic-degree (residue-nontrivial large²) (monic-poly m) (rw (poly-is) (monic-poly mf))) m mf poly-is
+      monic-equal large² m mf poly-is
     where
       one : (X : ℤ[x]/ (p *ℕ p)) (Q : Power) → X ∈ parts .0 → Q ∈ Ps → barred p large X ≡ power (pair p prime Q) → X ≡ poly (p *ℕ p) (primary p f Q)
       one X Q k i e =
@@ -158,5 +162,6 @@ module _ (p : ℕ) (prime : Prime p) {d : ℕ} {f : spec.Poly} (mf : MonicList (
           poly-product (p *ℕ p) (omega (arith, large²)) (map (primary p f) Ps)
           ∙ ap (product (PolyRing (Residues (p *ℕ p))))
           (map-map (poly (p *ℕ p)) (primary p f) Ps
-          ∙ sym (all-equal (parts .0) Ps (λ Q. power (pair p prime Q)) (λ Q. poly (p *ℕ p) (primary p f Q)) (parts .1 .bars ∙ map-map power (pair p prime) Ps) one))
+          ∙ sym (all-equal (parts .0) Ps (λ Q. power (pair p prime Q)) (λ Q. poly (p *ℕ p) (primary p f Q)) (parts .1 .bars
+          ∙ map-map power (pair p prime) Ps) one))
           ∙ parts .1 .multiplies ∙ unfold F in refl

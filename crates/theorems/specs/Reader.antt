@@ -4,11 +4,11 @@
 use mathlib.Core.Path.{_≡_, refl, sym, _∙_, ap, ap₂, subst}
 use mathlib.Core.Logic.{_↔_}
 use mathlib.Core.Bool.{true, false, not}
-use mathlib.Core.List.{List, [], _∷_}
+use mathlib.Core.List.{List, []}
 use Prim.Native.Nat.{ℕ, _≤_, _*_}
 use native.Mathlib.Omega.{arith}
 use lib.ListN.{getD}
-use lib.Dec.{T, eqb, ltb, eqb→eq, eqb-refl, ltb→lt, nltb→le}
+use lib.Dec.{T, ltb, ltb→lt, nltb→le}
 use Rattle.specification.specs.Lists.{same}
 use Rattle.specification.specs.Limits.{answerArea}
 use Rattle.specification.specs.Polynomials.{product}
@@ -17,7 +17,7 @@ use Rattle.specification.specs.Answers.{answer}
 use Rattle.specification.specs.FactorList.{factorList}
 use Rattle.specification.specs.Calls.{Outcome, success, refused, answerTo, splitCall, sheetIn, isAnswerTo, readCall}
 use Rattle.specification.specs.Promises.{GoodSheet}
-use Rattle.algebra.specs.Tests.{picked, passes, fails, both, left, right}
+use Rattle.algebra.specs.Tests.{picked, passes, fails}
 use Rattle.algebra.specs.ListLaws.{same-equal, same-refl}
 use Rattle.theorems.specs.SheetsRead.{read-is-good, read-is-written}
 use Rattle.theorems.specs.SheetsBothWays.{written-is-read}

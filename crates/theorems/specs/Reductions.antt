@@ -1,22 +1,23 @@
 -- Lists modulo p² and their bars: the specification's `reduce p` and `lift p` are reduction and lift of polynomials over ℤ/p² → ℤ/p.
 -- Proves that the lifts of a monic list q are exactly the monic lists modulo p² whose bar is q. Assumes nothing.
 use mathlib.Core.Path.{_≡_, refl, sym, _∙_, ap, ap₂, subst}
-use mathlib.Core.List.{List, [], _∷_, map, Memᴰ·of-map, Memᴰ·map, Memᴰ·cast}
+use mathlib.Core.List.{List, [], map, Memᴰ·of-map, Memᴰ·map, Memᴰ·cast}
 use mathlib.Core.Logic.{⊎-elim}
-use Prim.Native.Nat.{ℕ, zero, suc, _≤_, _<_, _%_, _/_, _+_ as _+ℕ_, _*_ as _*ℕ_}
+use Prim.Native.Nat.{ℕ, _≤_, _<_, _%_, _/_, _*_ as _*ℕ_}
 use native.Mathlib.Nat.{mod-add-div, mul-le-mul-left, div-eq-of-lt, zero-div, div-lt-iff-lt-mul, eq-or-lt-of-le}
 use native.Mathlib.Omega.{arith}
 use lib.ListN.{length, getD, take, length-map, length-take, List·getD-eq-default}
 use lib.Seq.{getD-take, length-take-le}
 use Rattle.specification.specs.Polynomials as spec
 use Rattle.specification.specs.Powers.{lifts, polynomials}
+use Rattle.algebra.specs.Numbers.{square-large}
 use Rattle.algebra.specs.Numbers.{lt-or-le}
-use Rattle.algebra.specs.Ring.{CommRing, add-zero, zero-mul}
-use Rattle.algebra.specs.Residues.{ℤ/, residue, Residues, residue-zero, residue-add, residue-mul, residue-self}
+use Rattle.algebra.specs.Ring.{add-zero, zero-mul}
+use Rattle.algebra.specs.Residues.{residue, Residues, residue-add, residue-mul, residue-self}
 use Rattle.algebra.specs.Polynomials.{PolyRing, _+_, _·_, 𝟎, constant, constant-zero, poly-ext, coef-add, coef-constant-mul}
-use Rattle.algebra.specs.Degree.{Below, Monic, below-up, below-constant-mul, monic-add}
+use Rattle.algebra.specs.Degree.{Monic, below-up, below-constant-mul, monic-add}
 use Rattle.algebra.specs.Homomorphisms.{map-poly, coef-map, map-homomorphism, map-constant}
-use Rattle.algebra.specs.Extension.{Extension, bar, bar-residue, residue-extension, poly-extension, square-pos}
+use Rattle.algebra.specs.Extension.{Extension, bar, bar-residue, residue-extension}
 use Rattle.algebra.specs.CoefficientLists.{ℤ[x]/, poly, Reduced, coef-poly, below-poly, poly-add, poly-scale, poly-reduce, same-list}
 use Rattle.algebra.specs.ListShapes.{length-add, length-reduce, length-scale, low-reduce, getD-map, getD-reduce}
 use Rattle.factorisation.specs.Members.{_∈_}
@@ -33,10 +34,11 @@ module _ (p : ℕ) (large : 1 < p) where
   barred = map-poly (coefficients .hom)
 
   pub bar-poly : (f : List ℕ) → barred (poly (p *ℕ p) f) ≡ poly p f
-  bar-poly f = poly-ext (λ k. coef-map (coefficients .hom) (poly (p *ℕ p) f) k ∙ ap (bar p) (coef-poly (p *ℕ p) f k) ∙ bar-residue p (omega arith) (getD f k 0) ∙ sym (coef-poly p f k))
+  bar-poly f = poly-ext (λ k. coef-map (coefficients .hom) (poly (p *ℕ p) f) k ∙ ap (bar p) (coef-poly (p *ℕ p) f k)
+      ∙ bar-residue p (omega arith) (getD f k 0) ∙ sym (coef-poly p f k))
 
-  large² : 1 < p *ℕ p
-  large² = omega (arith, mul-le-mul-left p (let l : 1 ≤ p = omega arith in l))
+  abbrev large² : 1 < p *ℕ p
+  large² = square-large p large
 
   -- digits below p read modulo p²
   pub digits-monic : {d : ℕ} {q : spec.Poly} → MonicList p d q → MonicList (p *ℕ p) d q
@@ -58,7 +60,8 @@ module _ (p : ℕ) (large : 1 < p) where
   pub bar-π-mul : (a : ℤ[x]/ (p *ℕ p)) → barred (π · a) ≡ 𝟎
   bar-π-mul a =
       (map-homomorphism (coefficients .hom)) .keeps-mul π a
-      ∙ ap (λ b. b · barred a) (map-constant (coefficients .hom) (residue (p *ℕ p) p) ∙ ap constant (bar-residue p (omega arith) p ∙ residue-self p (omega arith)) ∙ constant-zero (Residues p))
+      ∙ ap (λ b. b · barred a) (map-constant (coefficients .hom) (residue (p *ℕ p) p)
+      ∙ ap constant (bar-residue p (omega arith) p ∙ residue-self p (omega arith)) ∙ constant-zero (Residues p))
       ∙ zero-mul (PolyRing (Residues p)) (barred a)
 
   bar-lifted : (q t : spec.Poly) → poly p (spec.lift p q t) ≡ poly p q
@@ -71,8 +74,14 @@ module _ (p : ℕ) (large : 1 < p) where
     pub lift-monic : (t : spec.Poly) → length t ≤ d → MonicList (p *ℕ p) d (spec.lift p q t)
     lift-monic t l =
         monic-reduced large²
-        (record { len = unfold spec.lift in length-add (p *ℕ p) q (spec.scale (p *ℕ p) p t) (omega (arith, length-scale (p *ℕ p) p t, m .reduced .len)) ∙ m .reduced .len; low = unfold spec.lift spec.add in low-reduce (p *ℕ p) (omega (arith, large²)) _ })
-        (subst (Monic d) (sym (poly-lift q t)) (monic-add (monic-poly (digits-monic m)) (below-constant-mul (residue (p *ℕ p) p) (below-up l (below-poly (p *ℕ p) t)))))
+        (record {
+          len = unfold spec.lift in length-add (p *ℕ p) q (spec.scale (p *ℕ p) p t)
+              (omega (arith, length-scale (p *ℕ p) p t, m .reduced .len))
+              ∙ m .reduced .len;
+          low = unfold spec.lift spec.add in low-reduce (p *ℕ p) (omega (arith, large²)) _;
+        })
+        (subst (Monic d) (sym (poly-lift q t)) (monic-add (monic-poly (digits-monic m))
+        (below-constant-mul (residue (p *ℕ p) p) (below-up l (below-poly (p *ℕ p) t)))))
 
     pub lift-bar : (t : spec.Poly) → length t ≤ d → spec.reduce p (spec.lift p q t) ≡ q
     lift-bar t l =
@@ -100,7 +109,8 @@ module _ (p : ℕ) (large : 1 < p) where
 
     -- f = q + p·above f, where q is the bar of f
     lifted-again : (f : spec.Poly) → MonicList (p *ℕ p) d f → spec.reduce p f ≡ q → spec.lift p q (above f) ≡ f
-    lifted-again f mf e = monic-same refl (lift-monic (above f) (omega (arith, length-take d (map (λ (a : ℕ). a / p) f)))) mf (poly-lift q (above f) ∙ poly-ext at)
+    lifted-again f mf e =
+        monic-same refl (lift-monic (above f) (omega (arith, length-take d (map (λ (a : ℕ). a / p) f)))) mf (poly-lift q (above f) ∙ poly-ext at)
       where
         digit : (k : ℕ) → getD q k 0 ≡ getD f k 0 % p
         digit k = ap (λ g. getD g k 0) (sym e) ∙ getD-reduce p f k

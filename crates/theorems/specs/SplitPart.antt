@@ -13,6 +13,7 @@ use Rattle.specification.specs.Polynomials as spec
 use Rattle.specification.specs.Parts.{Factor, factor}
 use Rattle.specification.specs.Totals.{copies, different}
 use Rattle.specification.specs.Claims as claims
+use Rattle.algebra.specs.Numbers.{square-large}
 use Rattle.algebra.specs.Ring.{CommRing, mul-one}
 use Rattle.algebra.specs.Divisibility.{_∣_, pow, pow-one, product, product-nil, product-cons}
 use Rattle.algebra.specs.Residues.{Residues}
@@ -29,11 +30,11 @@ use Rattle.theorems.specs.Reductions.{barred, bar-poly}
 use Rattle.theorems.specs.Irreducibles.{prime-poly}
 use Rattle.theorems.specs.DifferentMembers.{different-factors}
 use Rattle.theorems.specs.Factors.{degrees, repeats, length-members, members-monic, powered, poly-members}
-use Rattle.theorems.specs.ListExtension.{square-large, extension}
+use Rattle.theorems.specs.ListExtension.{extension}
 use Rattle.theorems.specs.PartForm.{PartOver, PowerDivides, h, shape, bar-h}
 
 -- one factor, or two, the first of the degree of G
-abbrev pub OneOrTwo : spec.Poly → List Factor → Type 0
+abbrev OneOrTwo : spec.Poly → List Factor → Type 0
 OneOrTwo G qs =
     ((q : Factor) × (qs ≡ q ∷ [])) ⊎ ((q : Factor) × (r : Factor) × (qs ≡ q ∷ r ∷ []) × (spec.degree (q .poly) ≡ spec.degree G))
 
@@ -43,7 +44,6 @@ pub record SplitPart (p : ℕ) (large : 1 < p) (G : spec.Poly) (m : ℕ) (part :
   pub repeated : (q : Factor) → q ∈ qs → 1 ≤ q .times
   pub multiplies : spec.product (p *ℕ p) (flatMap copies qs) ≡ part
   pub degree-sum : degrees qs ≡ m *ℕ spec.degree G
-  pub one-or-two : OneOrTwo G qs
   pub not-lower : (q : Factor) → q ∈ qs → spec.degree G ≤ spec.degree (q .poly)
   -- the part as the theory of longest lists has it, for as many factors as are written and no more different ones
   pub ring : Part (extension p large)
@@ -113,7 +113,6 @@ module _ {p : ℕ} (prime : Prime p) {G : spec.Poly} {m : ℕ} {part : spec.Poly
       repeated = repeated;
       multiplies = monic-same sum (members-monic (square-large p large) qs monic) (over .monic) (poly-members (square-large p large) qs ∙ law);
       degree-sum = sum;
-      one-or-two = shape;
       not-lower = none-lower G m qs shape sum (omega (arith, count, room)) repeated;
       ring = ring-part;
       g-is = refl;

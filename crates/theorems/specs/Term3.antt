@@ -18,12 +18,12 @@ use Rattle.specification.specs.FactorList.{factorList}
 use Rattle.specification.specs.Calls.{Outcome, success, splitCall, readCall, count, areaAfter}
 use Rattle.specification.specs.Claims as claims
 use Rattle.specification.specs.Promises as promises
+use Rattle.algebra.specs.Numbers.{square-large}
 use Rattle.algebra.specs.Fields.{Prime, taken-prime}
 use Rattle.factorisation.specs.Members.{_∈_, All, all-map}
 use Rattle.theorems.specs.MonicLists.{MonicList, from-claims, monic-list-mul}
 use Rattle.theorems.specs.MonicDivision.{monic-list-one}
 use Rattle.theorems.specs.Items.{items}
-use Rattle.theorems.specs.ListExtension.{square-large}
 use Rattle.theorems.specs.SheetsRead.{read-is-good, read-is-written}
 use Rattle.theorems.specs.SheetsBothWays.{accepted-exactly}
 use Rattle.theorems.specs.SheetLength.{fault-place, long-refused}
@@ -35,6 +35,7 @@ use Rattle.theorems.specs.Reader as reader
 use Rattle.theorems.specs.Reader.{split-written}
 use Rattle.theorems.specs.AllParts.{Known, known, parts-monic}
 use Rattle.theorems.specs.LongestHolds.{longest, part-longest}
+use Rattle.theorems.specs.SettingsCounted.{settings-counted}
 
 module _ (s : Sheet) (g : promises.GoodSheet s) where
   abbrev p : ℕ
@@ -131,6 +132,11 @@ degrees-add-up bytes s e =
       ap length (t .multiplies),
       monic s g .reduced .len,
     )
+
+-- ---- settings
+
+pub settings : promises.Settings
+settings bytes s e = let g = read-is-good bytes s e in settings-counted (s .prime) (prime s g) (monic s g)
 
 -- ---- answers and sheets
 

@@ -13,6 +13,7 @@ use native.Mathlib.Omega.{arith}
 use Rattle.specification.specs.Polynomials as spec
 use Rattle.specification.specs.Inverses.{inverse}
 use Rattle.specification.specs.Parts.{Splitting, factor, hBar, m1, w, u, splitting}
+use Rattle.algebra.specs.Numbers.{square-large}
 use Rattle.algebra.specs.Ring.{CommRing, mul-zero, add-zero}
 use Rattle.algebra.specs.Identities.{_⊕_, _⊗_, _≈_, solve}
 use Rattle.algebra.specs.Divisibility.{pow, pow-zero, pow-one, pow-add, one-divides, divides-zero}
@@ -29,7 +30,7 @@ use Rattle.factorisation.specs.ExtensionLaws.{number, bar-mul, bar-mul-pow, bar
 use Rattle.theorems.specs.MonicLists.{to-claims}
 use Rattle.theorems.specs.Reductions.{barred, bar-poly, digits-monic}
 use Rattle.theorems.specs.Units.{number-multiple, number-divided}
-use Rattle.theorems.specs.ListExtension.{square-large, extension, lift-is, lift-list-monic}
+use Rattle.theorems.specs.ListExtension.{extension, lift-is, lift-list-monic}
 use Rattle.theorems.specs.PartForm.{PartOver, PowerDivides, HighestPower, base-monic, power-monic, shape, bar-h, highest-power}
 use Rattle.theorems.specs.SplitPart.{SplitPart, one-factor, two-factors}
 

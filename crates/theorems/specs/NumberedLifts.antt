@@ -1,0 +1,98 @@
+-- The monic lists modulo p² whose bar is a given monic list G of degree d are numbered by d digits: the digits t give G + p·t.
+-- Proves this, and that lists of k of them are numbered by d·k digits. Assumes nothing.
+use mathlib.Core.Path.{_≡_, refl, sym, _∙_, ap, subst}
+use mathlib.Core.List.{List, [], _∷_, Memᴰ·of-map}
+use mathlib.Core.List.{List·Memᴰ·head as here}
+use lib.ListN.{length, getD, replicate}
+use Prim.Native.Nat.{ℕ, zero, suc, _<_, _*_}
+use native.Mathlib.Omega.{arith}
+use Rattle.specification.specs.Polynomials as spec
+use Rattle.specification.specs.Powers.{lifts, polynomials}
+use Rattle.specification.specs.Promises.{Digits, Numbered}
+use Rattle.algebra.specs.Ring.{add-left-cancel}
+use Rattle.algebra.specs.Residues.{Residues}
+use Rattle.algebra.specs.Polynomials.{PolyRing}
+use Rattle.algebra.specs.CoefficientLists.{poly, Reduced, same-list}
+use Rattle.factorisation.specs.Members.{All, all-cons, all-tail}
+use Rattle.factorisation.specs.Sums.{total, total-nil, total-cons}
+use Rattle.factorisation.specs.ExtensionLaws.{π-injective}
+use Rattle.theorems.specs.MonicLists.{MonicList}
+use Rattle.theorems.specs.Enumeration.{polynomials-member}
+use Rattle.theorems.specs.Reductions.{bar-poly, lift-monic, lift-bar, lifts-has}
+use Rattle.theorems.specs.ListExtension.{extension, lift-is}
+use Rattle.theorems.specs.Numberings.{Each, each-numbered, carried}
+
+-- ---- digits are coefficients
+
+digits-reduced : {p k : ℕ} → 0 < p → {ds : List ℕ} → Digits p k ds → Reduced p k ds
+digits-reduced {p} pos {ds} h = record { len = h .count; low = low ds (h .low) }
+  where
+    low : (ds : List ℕ) → All (λ d. d < p) ds → (i : ℕ) → getD ds i 0 < p
+    low [] h i = pos
+    low (d ∷ ds) h zero = h d (here refl)
+    low (d ∷ ds) h (suc i) = low ds (all-tail h) i
+
+reduced-digits : {p k : ℕ} {ds : List ℕ} → Reduced p k ds → Digits p k ds
+reduced-digits {p} {ds = ds} r = record { count = r .len; low = low ds (r .low) }
+  where
+    low : (ds : List ℕ) → ((i : ℕ) → getD ds i 0 < p) → All (λ d. d < p) ds
+    low [] h = λ d i. elim i [ ]
+    low (d ∷ ds) h = all-cons (h 0) (low ds (λ i. h (suc i)))
+
+-- ---- lifts
+
+-- a monic list modulo p² whose bar is G
+pub record LiftOf (p : ℕ) (G x : spec.Poly) : Type 0 where
+  pub monic : MonicList (p * p) (spec.degree G) x
+  pub bar : spec.reduce p x ≡ G
+
+-- k of them
+pub record LiftsOf (p : ℕ) (G : spec.Poly) (k : ℕ) (xs : List spec.Poly) : Type 0 where
+  pub count : length xs ≡ k
+  pub lifted : All (LiftOf p G) xs
+
+module _ {p : ℕ} (large : 1 < p) {G : spec.Poly} (monic : MonicList p (spec.degree G) G) where
+  lifts-numbered : Numbered p (spec.degree G) (LiftOf p G)
+  unfolding lifts
+  lifts-numbered = record {
+    of = spec.lift p G;
+    offered = λ ds h. record { monic = lift-monic p large monic ds (omega (arith, h .count)); bar = lift-bar p large monic ds (omega (arith, h .count)) };
+    noneTwice = λ ds es h g e. same-list (digits-reduced (omega arith) h) (digits-reduced (omega arith) g) (injective ds es e);
+    allOffered = all;
+  }
+    where
+      injective : (ds es : List ℕ) → spec.lift p G ds ≡ spec.lift p G es → poly p ds ≡ poly p es
+      injective ds es e =
+          sym (bar-poly p large ds)
+          ∙ π-injective (extension p large)
+          (add-left-cancel (PolyRing (Residues (p * p))) (sym (lift-is p large G ds) ∙ ap (poly (p * p)) e ∙ lift-is p large G es))
+          ∙ bar-poly p large es
+
+      all : (x : spec.Poly) → LiftOf p G x → (ds : List ℕ) × Digits p (spec.degree G) ds × (spec.lift p G ds ≡ x)
+      all x l =
+          let (t, i, e) = Memᴰ·of-map (spec.lift p G) (polynomials p (spec.degree G)) (lifts-has p large monic x (l .monic) (l .bar)) in
+          (t, reduced-digits (polynomials-member p (omega arith) (spec.degree G) i), e)
+
+  pub lift-lists-numbered : (k : ℕ) → Numbered p (spec.degree G * k) (LiftsOf p G k)
+  lift-lists-numbered k =
+      subst (λ (n : ℕ). Numbered p n (LiftsOf p G k)) (size k)
+      (carried (each-numbered (LiftOf p) spec.degree (replicate k G) (only k)) (λ xs. xs) (from k) (λ xs ys h g e. e) (λ xs h. (xs, into k xs h, refl)))
+    where
+      size : (k : ℕ) → total spec.degree (replicate k G) ≡ spec.degree G * k
+      size zero = omega (arith, total-nil spec.degree)
+      size (suc k) = omega (arith, total-cons spec.degree G (replicate k G), size k)
+
+      only : (k : ℕ) → All (λ H. Numbered p (spec.degree H) (LiftOf p H)) (replicate k G)
+      only zero = λ H i. elim i [ ]
+      only (suc k) = all-cons lifts-numbered (only k)
+
+      from : (k : ℕ) (xs : List spec.Poly) → Each (LiftOf p) (replicate k G) xs → LiftsOf p G k xs
+      from zero xs e = rw e (record { count = refl; lifted = λ x i. elim i [ ] })
+      from (suc k) [] h = absurd h
+      from (suc k) (x ∷ xs) (h, r) = let l = from k xs r in record { count = ap suc (l .count); lifted = all-cons h (l .lifted) }
+
+      into : (k : ℕ) (xs : List spec.Poly) → LiftsOf p G k xs → Each (LiftOf p) (replicate k G) xs
+      into zero [] l = refl
+      into zero (x ∷ xs) l = absurd (omega (arith, l .count))
+      into (suc k) [] l = absurd (omega (arith, l .count))
+      into (suc k) (x ∷ xs) l = (l .lifted x (here refl), into k xs (record { count = omega (arith, l .count); lifted = all-tail (l .lifted) }))

@@ -1,0 +1,147 @@
+-- Lists of monic polynomials that multiply to a part over G to the m: they are lists of the theory of longest lists.
+-- Proves that none has more members than the part has factors, and that in one of as many, a factor of higher degree last, all before the last
+-- are lifts of G. Assumes nothing.
+use mathlib.Core.Path.{_≡_, refl, sym, _∙_, ap, subst}
+use mathlib.Core.List.{List, [], _∷_, map, Memᴰ·map, Memᴰ·append-left, Memᴰ·append-right}
+use mathlib.Core.List.{List·Memᴰ·head as here, List·Memᴰ·tail as there}
+use lib.ListN.{length, length-map}
+use Prim.Native.Nat.{ℕ, suc, _≤_, _<_, _-_, _+_ as _+ℕ_, _*_ as _*ℕ_}
+use native.Mathlib.Nat.{le-of-mul-le-mul-right}
+use native.Mathlib.Omega.{arith}
+use Rattle.specification.specs.Polynomials as spec
+use Rattle.specification.specs.Parts.{Factor}
+use Rattle.specification.specs.Claims as claims
+use Rattle.algebra.specs.Numbers.{square-large}
+use Rattle.algebra.specs.Ring.{CommRing, mul-one}
+use Rattle.algebra.specs.Divisibility.{_∣_, product, product-nil, product-cons}
+use Rattle.algebra.specs.Residues.{Residues}
+use Rattle.algebra.specs.Polynomials.{PolyRing, _·_}
+use Rattle.algebra.specs.Degree.{Monic, monic-one, monic-pow}
+use Rattle.algebra.specs.Homomorphisms.{monic-map}
+use Rattle.algebra.specs.Fields.{Prime, residue-nontrivial}
+use Rattle.algebra.specs.CoefficientLists.{ℤ[x]/, poly, poly-reduce, same-list}
+use Rattle.algebra.specs.ListShapes.{length-reduce, low-reduce}
+use Rattle.factorisation.specs.Members.{_∈_, All, all-cons, all-map, member-divides}
+use Rattle.factorisation.specs.Sums.{total-nil, total-cons}
+use Rattle.factorisation.specs.MonicDivisors.{IsMonic, monics, monic-degree, divisor-degree}
+use Rattle.factorisation.specs.LongestLists.{Part, Proper, length-at-most}
+use Rattle.factorisation.specs.Blocks.{multiplicity, divisor-bar}
+use Rattle.factorisation.specs.Settings.{Setting, first-bar}
+use Rattle.theorems.specs.MonicLists.{MonicList, monic-poly, from-claims}
+use Rattle.theorems.specs.Reductions.{coefficients, barred, bar-poly}
+use Rattle.theorems.specs.ListExtension.{extension}
+use Rattle.theorems.specs.PartForm.{PartOver, base-monic}
+use Rattle.theorems.specs.SplitPart.{SplitPart}
+use Rattle.theorems.specs.ListEnds.{then}
+use Rattle.theorems.specs.Factorisations.{factorisation-product, product-then}
+use Rattle.theorems.specs.NumberedLifts.{LiftOf}
+
+module _ {p : ℕ} (prime : Prime p) {G : spec.Poly} {m : ℕ} {part : spec.Poly} (over : PartOver p G m part)
+    {qs : List Factor} (S : SplitPart p (prime .large) G m part qs) where
+  abbrev large : 1 < p
+  large = prime .large
+
+  abbrev n : ℕ
+  n = p *ℕ p
+
+  pos : 0 < n
+  pos = omega (arith, square-large p large)
+
+  abbrev 𝓐 : CommRing (ℤ[x]/ n)
+  𝓐 = PolyRing (Residues n)
+
+  pub bar-base : barred p large (S .ring .g) ≡ poly p G
+  bar-base = ap (barred p large) (S .g-is) ∙ bar-poly p large G
+
+  monic-base : Monic (spec.degree G) (barred p large (S .ring .g))
+  monic-base = rw bar-base (monic-poly (base-monic large over))
+
+  base-is-monic : IsMonic (barred p large (S .ring .g))
+  base-is-monic = (spec.degree G, monic-base)
+
+  -- ---- one member
+
+  module _ {x : spec.Poly} (monic : claims.Monic n x) where
+    member-bar : Monic (spec.degree x) (barred p large (poly n x))
+    member-bar = monic-map ((coefficients p large) .hom) (monic-poly (from-claims pos monic))
+
+    -- degree 1 or more: no unit
+    member-proper : Proper (extension p large) (poly n x)
+    member-proper v = omega (arith, monic .positive, divisor-degree (residue-nontrivial large) member-bar monic-one v)
+
+    member-degree : _∣_ 𝓐 (poly n x) (S .ring .P) → spec.degree x ≡ multiplicity (extension p large) (S .ring) (poly n x) *ℕ spec.degree G
+    member-degree v =
+        monic-degree (residue-nontrivial large) member-bar
+        (subst (Monic (multiplicity (extension p large) (S .ring) (poly n x) *ℕ spec.degree G))
+        (sym (divisor-bar (extension p large) (monics (residue-nontrivial large)) (S .ring) base-is-monic v (spec.degree x, member-bar)))
+        (monic-pow monic-base (multiplicity (extension p large) (S .ring) (poly n x))))
+
+    member-lift : barred p large (poly n x) ≡ barred p large (S .ring .g) → LiftOf p G x
+    member-lift e = record {
+      monic = subst (λ (d : ℕ). MonicList n d x) degree (from-claims pos monic);
+      bar = same-list (record { len = length-reduce p x ∙ omega (arith, degree, monic .positive); low = low-reduce p (omega arith) x })
+          (base-monic large over .reduced) (poly-reduce p (omega arith) x ∙ sym (bar-poly p large x) ∙ e ∙ bar-base);
+    }
+      where
+        degree : spec.degree x ≡ spec.degree G
+        degree = monic-degree (residue-nontrivial large) member-bar (rw e monic-base)
+
+  -- ---- all members
+
+  -- no list is longer
+  pub at-most : {L : List spec.Poly} → claims.Factorisation n part L → length L ≤ S .ring .s
+  at-most {L} l =
+      omega (
+        arith,
+        length-map L (poly n),
+        total-cons (λ (q : Part (extension p large)). q .s) (S .ring) [],
+        total-nil (λ (q : Part (extension p large)). q .s),
+        length-at-most (extension p large) {Q = S .ring ∷ []} ((λ q i. elim i [ ]), tt) {L = map (poly n) L}
+            (record {
+              factors = factorisation-product (square-large p large) l ∙ sym (S .P-is)
+                  ∙ sym (product-cons 𝓐 (S .ring .P) [] ∙ ap (λ a. S .ring .P · a) (product-nil 𝓐) ∙ mul-one 𝓐 (S .ring .P));
+              proper = all-map (Proper (extension p large)) (poly n) L (λ x i. member-proper (l .monic x i));
+            }),
+      )
+
+  module _ (xs : List spec.Poly) (y : spec.Poly) (l : claims.Factorisation n part (then xs y)) (count : suc (length xs) ≡ S .ring .s)
+      (higher : All (λ x. spec.degree x ≤ spec.degree y) xs) where
+    first-monic : All (claims.Monic n) xs
+    first-monic x i = l .monic x (Memᴰ·append-left (y ∷ []) i)
+
+    last-monic : claims.Monic n y
+    last-monic = l .monic y (Memᴰ·append-right xs (here refl))
+
+    factors : product 𝓐 (poly n y ∷ map (poly n) xs) ≡ S .ring .P
+    factors = sym (product-then 𝓐 (poly n) xs y) ∙ factorisation-product (square-large p large) l ∙ sym (S .P-is)
+
+    divides : {a : ℤ[x]/ n} → a ∈ (poly n y ∷ map (poly n) xs) → _∣_ 𝓐 a (S .ring .P)
+    divides i = rw factors at (member-divides 𝓐 i)
+
+    setting : Setting (extension p large) IsMonic (S .ring) (map (poly n) xs) (poly n y)
+    setting = record {
+      count = ap suc (length-map xs (poly n)) ∙ count;
+      factors = factors;
+      monic = all-cons (spec.degree y, member-bar last-monic)
+          (all-map (λ a. IsMonic (barred p large a)) (poly n) xs (λ x i. (spec.degree x, member-bar (first-monic x i))));
+      proper = all-cons (member-proper last-monic) (all-map (Proper (extension p large)) (poly n) xs (λ x i. member-proper (first-monic x i)));
+      order = all-map (λ a. e a ≤ e (poly n y)) (poly n) xs
+          (λ x i. le-of-mul-le-mul-right {k = spec.degree G}
+          (omega (
+            arith,
+            higher x i,
+            member-degree (first-monic x i) (divides (there (Memᴰ·map (poly n) i))),
+            member-degree last-monic (divides (here refl)),
+          ))
+          (over .irreducible .monic .positive));
+    }
+      where
+        e : ℤ[x]/ n → ℕ
+        e = multiplicity (extension p large) (S .ring)
+
+    -- claim G: all before the last have the bar G
+    pub first-lifted : All (LiftOf p G) xs
+    first-lifted x i =
+        member-lift (first-monic x i)
+        (first-bar (extension p large) IsMonic (S .ring) (monics (residue-nontrivial large)) base-is-monic (S .ring .m - S .ring .s)
+        (let r : S .ring .s +ℕ (S .ring .m - S .ring .s) ≡ S .ring .m = omega (arith, S .room, S .m-is) in r) setting (poly n x) (Memᴰ·map (poly n) i))
