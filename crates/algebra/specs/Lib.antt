@@ -5,8 +5,10 @@ pub mod Divisibility
 pub mod Residues
 pub mod Series
 pub mod Polynomials
+pub mod Monomials
 pub mod Degree
 pub mod Division
+pub mod Congruence
 pub mod Leading
 pub mod Tests
 pub mod ListLaws

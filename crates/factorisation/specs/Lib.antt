@@ -13,6 +13,7 @@ pub mod Settings
 pub mod LastMember
 pub mod MonicDivisors
 pub mod Irreducible
+pub mod IrreducibleDivisors
 pub mod Multiplicity
 pub mod UniqueFactorisation
 pub mod Kernel

@@ -31,7 +31,7 @@ module _ {R : Type 0} {𝓡 : CommRing R} where
   abbrev pub IsMonic : Poly 𝓡 → Type 0
   IsMonic a = (d : ℕ) × Monic d a
 
-  monic-difference : {d : ℕ} {a b : Poly 𝓡} → Monic d a → Monic d b → Below d (a + - b)
+  pub monic-difference : {d : ℕ} {a b : Poly 𝓡} → Monic d a → Monic d b → Below d (a + - b)
   monic-difference {d} {a} {b} m n = below-down (below-add (m .below) (below-neg (n .below))) top
     where
       top : (a + - b) .coef d ≡ 𝓡 .𝟘

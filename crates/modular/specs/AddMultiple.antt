@@ -14,7 +14,7 @@ use Rattle.algebra.specs.Residues.{residue, Residues, residue-add, residue-mul,
 use Rattle.algebra.specs.Polynomials.{_+_, _·_, constant, poly-ext, coef-add, coef-constant-mul}
 use Rattle.algebra.specs.Degree.{Below}
 use Rattle.algebra.specs.CoefficientLists.{ℤ[x]/, poly, Reduced, coef-poly}
-use Rattle.modular.specs.Shift.{x^, coef-shift-below, coef-shift}
+use Rattle.algebra.specs.Monomials.{x^, coef-shift-below, coef-shift}
 use Rattle.modular.specs.Coefficients.{Represents}
 
 -- the entry j of a + c·x^k·b, from k on

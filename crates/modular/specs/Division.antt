@@ -13,7 +13,7 @@ use Rattle.algebra.specs.Polynomials.{PolyRing, _+_, _·_, -_, 𝟏, constant}
 use Rattle.algebra.specs.Degree.{Below, Monic, below-up, monic-mul, monic-pow-x}
 use Rattle.algebra.specs.Division.{below-top}
 use Rattle.algebra.specs.CoefficientLists.{ℤ[x]/, poly, Reduced, coef-poly}
-use Rattle.modular.specs.Shift.{x^}
+use Rattle.algebra.specs.Monomials.{x^}
 use Rattle.modular.specs.Coefficients.{Represents, zeros, poly-unit, constant-residue-neg}
 
 -- q and r are the arrays of the quotient and of the remainder of a by b, which is of degree d

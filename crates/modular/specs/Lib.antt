@@ -1,4 +1,3 @@
-pub mod Shift
 pub mod Coefficients
 pub mod AddMultiple
 pub mod Sum

@@ -13,7 +13,7 @@ use Rattle.algebra.specs.Residues.{residue, Residues}
 use Rattle.algebra.specs.Polynomials.{PolyRing, _+_, _·_, 𝟎, x, constant, poly-ext, coef-zero}
 use Rattle.algebra.specs.Degree.{Below}
 use Rattle.algebra.specs.CoefficientLists.{ℤ[x]/, poly, Reduced, coef-poly, poly-cons}
-use Rattle.modular.specs.Shift.{x^, shift-zero}
+use Rattle.algebra.specs.Monomials.{x^, shift-zero}
 use Rattle.modular.specs.Coefficients.{Represents, zeros}
 
 -- after i turns

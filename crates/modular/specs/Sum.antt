@@ -7,7 +7,7 @@ use Rattle.algebra.specs.Identities.{con, _⊗_, ⊝_, _≈_, solve}
 use Rattle.algebra.specs.Residues.{residue, Residues}
 use Rattle.algebra.specs.Polynomials.{PolyRing, _+_, _·_, -_, constant}
 use Rattle.algebra.specs.CoefficientLists.{poly}
-use Rattle.modular.specs.Shift.{x^, shift-zero}
+use Rattle.algebra.specs.Monomials.{x^, shift-zero}
 use Rattle.modular.specs.Coefficients.{Represents, constant-residue-one, constant-residue-neg}
 
 module _ (n : ℕ) (a b r : List ℕ) where

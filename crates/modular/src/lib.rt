@@ -8,7 +8,7 @@ ghost use Rattle.algebra.specs.Residues.{residue};
 ghost use Rattle.algebra.specs.Polynomials.{_+_, _·_, -_, constant};
 ghost use Rattle.algebra.specs.Degree.{Below, Monic};
 ghost use Rattle.algebra.specs.CoefficientLists.{poly, Reduced};
-ghost use Rattle.modular.specs.Shift.{x^};
+ghost use Rattle.algebra.specs.Monomials.{x^};
 ghost use Rattle.modular.specs.Coefficients.{Represents, Size};
 ghost use Rattle.modular.specs.Division.{DividedBy};
 

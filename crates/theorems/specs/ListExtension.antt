@@ -24,10 +24,11 @@ module _ (p : ℕ) (large : 1 < p) where
   abbrev pub extension : Extension (PolyRing (Residues (p *ℕ p))) (PolyRing (Residues p)) (barred p large)
   extension = poly-extension (coefficients p large)
 
+  pub π-is : extension .π ≡ constant (residue (p *ℕ p) p)
+  π-is = poly-π (coefficients p large) ∙ ap constant (residue-π p (omega arith))
+
   pub lift-is : (q t : spec.Poly) → poly (p *ℕ p) (spec.lift p q t) ≡ poly (p *ℕ p) q + extension .π · poly (p *ℕ p) t
-  lift-is q t =
-      poly-lift p large q t
-      ∙ ap (λ a. poly (p *ℕ p) q + a · poly (p *ℕ p) t) (sym (poly-π (coefficients p large) ∙ ap constant (residue-π p (omega arith))))
+  lift-is q t = poly-lift p large q t ∙ ap (λ a. poly (p *ℕ p) q + a · poly (p *ℕ p) t) (sym π-is)
 
   pub lift-list-monic : {d : ℕ} {q : spec.Poly} → MonicList (p *ℕ p) d q → (t : spec.Poly) → length t ≤ suc d → Below d (poly p t)
       → MonicList (p *ℕ p) d (spec.lift p q t)

@@ -1,6 +1,6 @@
 -- Items 5 and 7 of a part over G to the m: the h of part = g^m + p·h, the power m1 and the w of h bar = G^m1 · w, as polynomials.
 -- Proves both equations, the degrees of h and w, and that m1 is the highest power, below m where h bar is not zero. Assumes nothing.
-use mathlib.Core.Path.{_≡_, sym, _∙_, ap, ap₂, subst}
+use mathlib.Core.Path.{_≡_, sym, _∙_, ap, subst}
 use mathlib.Core.List.{map}
 use mathlib.Core.Logic.{_≢_, ⊎-elim}
 use Prim.Native.Nat.{ℕ, suc, _≤_, _<_, _-_, _/_, _+_ as _+ℕ_, _*_ as _*ℕ_}
@@ -12,16 +12,17 @@ use Rattle.specification.specs.Powers.{Power}
 use Rattle.specification.specs.Parts.{hBar, m1, w}
 use Rattle.specification.specs.Claims as claims
 use Rattle.algebra.specs.Numbers.{square-large}
-use Rattle.algebra.specs.Ring.{CommRing, linear1, add-neg, zero-mul}
+use Rattle.algebra.specs.Ring.{CommRing, linear1, zero-mul}
 use Rattle.algebra.specs.Identities.{con, _⊕_, _⊖_, _⊗_, _≈_, solve}
 use Rattle.algebra.specs.Divisibility.{_∣_, pow}
 use Rattle.algebra.specs.Residues.{Residues}
-use Rattle.algebra.specs.Polynomials.{PolyRing, _+_, _·_, -_, 𝟎, 𝟏, coef-add, coef-neg}
-use Rattle.algebra.specs.Degree.{Below, Monic, below-add, below-neg, below-down, below-factor, small-multiple, monic-pow}
+use Rattle.algebra.specs.Polynomials.{PolyRing, _+_, _·_, -_, 𝟎, 𝟏}
+use Rattle.algebra.specs.Degree.{Below, below-factor, small-multiple, monic-pow}
 use Rattle.algebra.specs.Homomorphisms.{below-map}
 use Rattle.algebra.specs.CoefficientLists.{ℤ[x]/, poly, poly-reduce, poly-sub, poly-pow}
 use Rattle.algebra.specs.ListShapes.{length-sub, length-reduce, low-reduce}
 use Rattle.algebra.specs.ListDivision.{divides-exact, length-quotient}
+use Rattle.factorisation.specs.MonicDivisors.{monic-difference}
 use Rattle.factorisation.specs.ExtensionLaws.{bar-pow}
 use Rattle.factorisation.specs.Kernel.{kernel-sub}
 use Rattle.factorisation.specs.PolynomialExtension.{below-part}
@@ -113,20 +114,7 @@ module _ {p : ℕ} (large : 1 < p) {G : spec.Poly} {m : ℕ} {part : spec.Poly} 
 
   -- both leading coefficients are 1
   below-difference : Below (m *ℕ spec.degree G) (poly (p *ℕ p) difference)
-  below-difference = rw poly-difference (below-down (below-add (P .below) (below-neg (Q .below))) top)
-    where
-      P : Monic (m *ℕ spec.degree G) (poly (p *ℕ p) part)
-      P = monic-poly (over .monic)
-
-      Q : Monic (m *ℕ spec.degree G) (poly (p *ℕ p) (spec.pow (p *ℕ p) G m))
-      Q = monic-poly (power-monic m)
-
-      top : (poly (p *ℕ p) part + - poly (p *ℕ p) (spec.pow (p *ℕ p) G m)) .coef (m *ℕ spec.degree G) ≡ (Residues (p *ℕ p)) .𝟘
-      top =
-          coef-add (poly (p *ℕ p) part) (- poly (p *ℕ p) (spec.pow (p *ℕ p) G m)) (m *ℕ spec.degree G)
-          ∙ ap₂ ((Residues (p *ℕ p)) .add) (P .leading)
-          (coef-neg (poly (p *ℕ p) (spec.pow (p *ℕ p) G m)) (m *ℕ spec.degree G) ∙ ap ((Residues (p *ℕ p)) .neg) (Q .leading))
-          ∙ add-neg (Residues (p *ℕ p)) ((Residues (p *ℕ p)) .𝟙)
+  below-difference = rw poly-difference (monic-difference (monic-poly (over .monic)) (monic-poly (power-monic m)))
 
   pub below-h : Below (m *ℕ spec.degree G) (poly p (hBar p G m part))
   below-h =

@@ -1,11 +1,11 @@
--- Multiples by a power of x: the coefficients, k places up.
+-- Powers of x, `x^ k`, and multiples by them: the coefficients, k places up.
 -- Proves where each coefficient of x^k·a comes from. Assumes nothing.
-use mathlib.Core.Path.{_≡_, _∙_, ap}
+use mathlib.Core.Path.{_≡_, sym, _∙_, ap}
 use Prim.Native.Nat.{ℕ, zero, suc, _≤_, _<_, _-_}
 use native.Mathlib.Omega.{arith}
-use Rattle.algebra.specs.Ring.{CommRing, one-mul, mul-assoc}
+use Rattle.algebra.specs.Ring.{CommRing, one-mul, mul-one, mul-assoc}
 use Rattle.algebra.specs.Divisibility.{pow, pow-zero, pow-suc}
-use Rattle.algebra.specs.Polynomials.{Poly, PolyRing, _·_, x, coef-x-mul-zero, coef-x-mul-suc}
+use Rattle.algebra.specs.Polynomials.{Poly, PolyRing, _·_, 𝟏, x, coef-x-mul-zero, coef-x-mul-suc}
 
 module _ {R : Type 0} {𝓡 : CommRing R} where
   -- x to the power k
@@ -30,3 +30,6 @@ module _ {R : Type 0} {𝓡 : CommRing R} where
   coef-shift (suc k) a (suc j) l =
       ap (λ b. b .coef (suc j)) (shift-suc k a) ∙ coef-x-mul-suc (x^ k · a) j ∙ coef-shift k a j (omega arith)
       ∙ ap (a .coef) (let e : j - k ≡ suc j - suc k = omega arith in e)
+
+pub coef-power-low : {R : Type 0} (𝓡 : CommRing R) (i k : ℕ) → k < i → (x^ {𝓡 = 𝓡} i) .coef k ≡ 𝓡 .𝟘
+coef-power-low 𝓡 i k l = ap (λ a. a .coef k) (sym (mul-one (PolyRing 𝓡) (x^ i))) ∙ coef-shift-below i 𝟏 k l

@@ -1,0 +1,13 @@
+pub mod Evaluation
+pub mod LinearMaps
+pub mod Frobenius
+pub mod FrobeniusPowers
+pub mod Roots
+pub mod Span
+pub mod Reduction
+pub mod LeastDependency
+pub mod DifferenceProducts
+pub mod SplittingElements
+pub mod Unsplit
+pub mod PrimaryPowers
+pub mod PowerDependencies

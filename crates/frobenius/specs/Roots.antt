@@ -1,0 +1,153 @@
+-- Polynomials with as many roots as their degree, and the polynomial y^p − y over (ℤ/p)[x], whose roots are the constants.
+-- Proves that a monic polynomial whose roots differ by units is the product of its linear factors, over any ring with decided equality,
+-- and that v^p − v is the product of the v − c over all residues c modulo a prime p. Assumes nothing.
+use mathlib.Core.Path.{_≡_, refl, sym, _∙_, ap, ap₂, fun-ext}
+use mathlib.Core.Logic.{_≢_}
+use mathlib.Core.List.{List, [], _∷_, map, map-map, Memᴰ·cast, Memᴰ·map}
+use mathlib.Core.List.{List·Memᴰ·head as here}
+use Prim.Native.Nat.{ℕ, zero, suc, _<_}
+use native.Mathlib.Nat.{mod-eq-of-lt}
+use native.Mathlib.Omega.{arith}
+use lib.ListN.{length, length-map}
+use Rattle.specification.specs.Lists.{upFrom}
+use Rattle.algebra.specs.Ring.{CommRing, sub-self, eq-of-sub, linear2}
+use Rattle.algebra.specs.Identities.{con, _⊖_, _⊕_, _⊗_, ⊝_, _≈_, solve}
+use Rattle.algebra.specs.Divisibility.{_∣_, product, product-nil, product-cons}
+use Rattle.algebra.specs.Residues.{ℤ/, residue, Residues, residue-value, value-below, same-remainder}
+use Rattle.algebra.specs.Polynomials.{Poly, PolyRing, _+_, _·_, -_, x, 𝟎, constant, constant-neg, constant-add, constant-mul, constant-one}
+use Rattle.algebra.specs.Monomials.{x^}
+use Rattle.algebra.specs.Degree.{Monic, below-up, below-neg, monic-zero, monic-add, monic-x, monic-one, monic-pow-x}
+use Rattle.algebra.specs.Leading.{monic-cofactor, poly-discrete}
+use Rattle.algebra.specs.ListLaws.{upFrom-member, upFrom-has}
+use Rattle.algebra.specs.Fields.{Field, Prime, prime-pos, residue-field, residue-discrete}
+use Rattle.algebra.specs.Homomorphisms.{keeps-neg, keeps-pow, keeps-product}
+use Rattle.factorisation.specs.Members.{_∈_, All, all-tail, all-map}
+use Rattle.factorisation.specs.InOrder.{InOrder, in-order-map, in-order-by}
+use Rattle.factorisation.specs.MonicDivisors.{monic-nonzero}
+use Rattle.frobenius.specs.Evaluation.{linear, monic-linear, evaluate, evaluation, evaluate-x, evaluate-constant, root-divides}
+use Rattle.frobenius.specs.FrobeniusPowers.{_^_, frobenius-prime, power-constant}
+
+-- c and d differ by a unit
+abbrev pub Apart : {R : Type 0} → CommRing R → R → R → Type 0
+Apart 𝓡 c d = _∣_ 𝓡 (𝓡 .add d (𝓡 .neg c)) (𝓡 .𝟙)
+
+-- different constants are apart
+pub different-apart : {R : Type 0} {𝓡 : CommRing R} → Field 𝓡 → (c d : R) → c ≢ d → Apart (PolyRing 𝓡) (constant c) (constant d)
+different-apart {𝓡 = 𝓡} field c d n =
+    let (u, e) = field .inverse (𝓡 .add d (𝓡 .neg c)) (λ z. n (sym (eq-of-sub 𝓡 z))) in (
+      constant u,
+      ap (λ a. constant u · (constant d + a)) (sym (constant-neg c)) ∙ ap (λ a. constant u · a) (sym (constant-add d (𝓡 .neg c)))
+          ∙ sym (constant-mul u (𝓡 .add d (𝓡 .neg c))) ∙ ap constant (𝓡 .*-comm u (𝓡 .add d (𝓡 .neg c)) ∙ e) ∙ constant-one 𝓡,
+    )
+
+module _ {R : Type 0} (𝓡 : CommRing R) (decide : Discrete R) where
+  infixl 70 _*_
+  infixl 60 _∔_
+  open CommRing 𝓡 using (add as _∔_, mul as _*_, neg, 𝟘, 𝟙)
+
+  evaluate-linear : (y c : R) → evaluate 𝓡 decide y (linear c) ≡ y ∔ neg c
+  evaluate-linear y c =
+      evaluation 𝓡 decide y .keeps-add x (- constant c)
+      ∙ ap₂ _∔_ (evaluate-x 𝓡 decide y) (keeps-neg (evaluation 𝓡 decide y) (constant c) ∙ ap neg (evaluate-constant 𝓡 decide y c))
+
+  -- a root of q·(x − c) that is apart from c is one of q
+  other-root : (q : Poly 𝓡) (c d : R) → Apart 𝓡 c d → evaluate 𝓡 decide d (q · linear c) ≡ 𝟘 → evaluate 𝓡 decide d q ≡ 𝟘
+  other-root q c d (u, unit) e =
+      let a = evaluate 𝓡 decide d q in
+      let h : a * (d ∔ neg c) ≡ 𝟘 = sym (evaluation 𝓡 decide d .keeps-mul q (linear c) ∙ ap (λ b. a * b) (evaluate-linear d c)) ∙ e in
+      linear2 𝓡 (neg a) u unit h
+      (solve 𝓡 3 (λ a u w. a ⊖ con 0 ≈ ⊝ a ⊗ (u ⊗ w ⊖ con 1) ⊕ u ⊗ (a ⊗ w ⊖ con 0)) tt a u (d ∔ neg c))
+
+  pub linear-factors : 𝟙 ≢ 𝟘 → (l : List R) (f : Poly 𝓡) → Monic (length l) f → All (λ c. evaluate 𝓡 decide c f ≡ 𝟘) l → InOrder (Apart 𝓡) l
+      → f ≡ product (PolyRing 𝓡) (map linear l)
+  linear-factors nontrivial [] f m roots apart = monic-zero m ∙ sym (product-nil (PolyRing 𝓡))
+  linear-factors nontrivial (c ∷ l) f m roots (first, apart) =
+      go (root-divides 𝓡 decide c f (roots c (here refl))) (λ q. linear-factors nontrivial l q)
+    where
+      go : _∣_ (PolyRing 𝓡) (linear c) f
+          → ((q : Poly 𝓡) → Monic (length l) q → All (λ d. evaluate 𝓡 decide d q ≡ 𝟘) l → InOrder (Apart 𝓡) l → q ≡ product (PolyRing 𝓡) (map linear l))
+          → f ≡ product (PolyRing 𝓡) (map linear (c ∷ l))
+      go (q, e) rest =
+          sym e ∙ (PolyRing 𝓡) .*-comm q (linear c)
+          ∙ ap (λ a. linear c · a) (rest q monic (λ d i. other-root q c d (first d i) (ap (evaluate 𝓡 decide d) e ∙ all-tail roots d i)) apart)
+          ∙ sym (product-cons (PolyRing 𝓡) (linear c) (map linear l))
+        where
+          monic : Monic (length l) q
+          monic =
+              let (j, n, s) = monic-cofactor decide nontrivial {d = suc (length l)} q (linear c) (monic-linear c) (rw e m) in
+              rw (let z : j ≡ length l = omega arith in z) at n
+
+-- ---- the residues modulo p
+
+upFrom-length : (b k : ℕ) → length (upFrom b k) ≡ k
+unfolding upFrom
+upFrom-length b zero = refl
+upFrom-length b (suc k) = ap suc (upFrom-length (suc b) k)
+
+upFrom-rising : (b k : ℕ) → InOrder _<_ (upFrom b k)
+unfolding upFrom
+upFrom-rising b zero = tt
+upFrom-rising b (suc k) = ((λ a i. upFrom-member (suc b) k i .0), upFrom-rising (suc b) k)
+
+-- all residues, each once
+unfoldable pub residues : (p : ℕ) → List (ℤ/ p)
+residues p = map (residue p) (upFrom 0 p)
+
+module _ {p : ℕ} (P : Prime p) where
+  pub residues-different : InOrder (λ c d. c ≢ d) (residues p)
+  unfolding residues
+  residues-different =
+      in-order-map (λ a b. (a < b) × (b < p)) (λ c d. c ≢ d) (residue p) (upFrom 0 p) different
+      (in-order-by _<_ (λ a b. (a < b) × (b < p)) (upFrom 0 p) (λ a b i j l. (l, omega (arith, upFrom-member 0 p j .1))) (upFrom-rising 0 p))
+    where
+      different : (a b : ℕ) → (a < b) × (b < p) → residue p a ≢ residue p b
+      different a b (l, s) e =
+          let r = same-remainder p (prime-pos P) a b e in
+          let k : a < p = omega arith in
+          omega (arith, mod-eq-of-lt k, mod-eq-of-lt s)
+
+  pub residues-all : (c : ℤ/ p) → c ∈ residues p
+  unfolding residues
+  residues-all c =
+      Memᴰ·cast (sym (residue-value p c)) (Memᴰ·map (residue p) (upFrom-has 0 p (omega arith) (omega (arith, value-below p (prime-pos P) c))))
+
+  residues-length : length (residues p) ≡ p
+  unfolding residues
+  residues-length = length-map (upFrom 0 p) (residue p) ∙ upFrom-length 0 p
+
+  -- y^p − y over (ℤ/p)[x], and its values
+  decide : Discrete (Poly (Residues p))
+  decide = poly-discrete (residue-discrete p)
+
+  difference : Poly (PolyRing (Residues p))
+  difference = x^ p + - x
+
+  monic-difference : Monic p difference
+  unfolding difference
+  monic-difference = monic-add (monic-pow-x p) (below-neg (below-up (P .large) (monic-x .below)))
+
+  value : (v : Poly (Residues p)) → evaluate (PolyRing (Residues p)) decide v difference ≡ v ^ p + - v
+  unfolding difference
+  value v =
+      let h = evaluation (PolyRing (Residues p)) decide v in
+      let e : evaluate (PolyRing (Residues p)) decide v x ≡ v = evaluate-x (PolyRing (Residues p)) decide v in
+      h .keeps-add (x^ p) (- x) ∙ ap₂ _+_ (keeps-pow h x p ∙ ap (λ a. a ^ p) e) (keeps-neg h x ∙ ap -_ e)
+
+  factors : difference ≡ product (PolyRing (PolyRing (Residues p))) (map linear (map constant (residues p)))
+  factors =
+      linear-factors (PolyRing (Residues p)) decide (monic-nonzero (residue-field p P .one-ne-zero) monic-one) (map constant (residues p)) difference
+      (rw (length-map (residues p) (constant {𝓡 = Residues p}) ∙ residues-length) monic-difference)
+      (all-map (λ a. evaluate (PolyRing (Residues p)) decide a difference ≡ 𝟎) constant (residues p)
+      (λ c i. value (constant c) ∙ sub-self (PolyRing (Residues p)) (power-constant (frobenius-prime P) c)))
+      (in-order-map (λ c d. c ≢ d) (Apart (PolyRing (Residues p))) constant (residues p) (different-apart (residue-field p P)) residues-different)
+
+  pub power-product : (v : Poly (Residues p))
+      → v ^ p + - v ≡ product (PolyRing (Residues p)) (map (λ c. v + - constant c) (residues p))
+  power-product v =
+      sym (value v) ∙ ap at factors ∙ keeps-product (evaluation (PolyRing (Residues p)) decide v) (map linear (map constant (residues p)))
+      ∙ ap (product (PolyRing (Residues p)))
+      (ap (map at) (map-map linear constant (residues p)) ∙ map-map at (λ c. linear (constant c)) (residues p)
+      ∙ ap (λ f. map f (residues p)) (fun-ext (λ c. evaluate-linear (PolyRing (Residues p)) decide v (constant c))))
+    where
+      at : Poly (PolyRing (Residues p)) → Poly (Residues p)
+      at = evaluate (PolyRing (Residues p)) decide v

@@ -1,0 +1,1 @@
+// The mathematics of splitting modulo p: v^p = v, roots, spans and least dependencies, powers of one irreducible polynomial. No code.

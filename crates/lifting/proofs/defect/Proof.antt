@@ -1,0 +1,29 @@
+-- `lifting::defect` meets its contract.
+-- Assumes nothing.
+use native.Mathlib.Nat.{mul-le-mul}
+use native.Mathlib.Numerals.{add-one}
+use native.Mathlib.Omega.{arith}
+use borrow.Author.Needs.{needs}
+use Rattle.algebra.specs.Numbers.{square-large}
+use Rattle.lifting.specs.Defect.{first-monic, second-monic, defect-is}
+use Rattle.lifting.proofs.defect.Statement.{statement}
+use Rattle.lifting.proofs.defect.Tie as tie
+
+pub defect-spec : {M : Type 1} → statement M
+defect-spec =
+    tie.close
+    (tie.spec
+    (λ c. omega (arith, mul-le-mul {n₁ = c .args .p} {m₁ = c .args .p} {n₂ = 255} {m₂ = 255} (omega arith) (omega arith)))  -- mul-n
+    (λ c. search needs)  -- add-product
+    (λ c. search needs)  -- add-product-2
+    (λ c κs.
+    let F = c .pre .1 in (
+      omega (arith, square-large (c .args .p) (F .prime .large)),
+      omega (arith, F .fits),
+      omega (arith, F .fits),
+      rw add-one (first-monic F .below),
+      rw add-one (second-monic F .below),
+    ))  -- product-requires
+    (λ c κs. search needs)  -- difference-requires
+    (λ c κs. search needs)  -- over-requires
+    (λ c. defect-is (c .before .before .before .pre .1) (c .before .before .product .ensures) (c .before .difference .ensures) (c .over .ensures)))  -- returns

@@ -1,0 +1,82 @@
+-- The polynomials s and t of s·b + t·a = h modulo p, where a and b are coprime: `Inverse`, what is given of them, and `Correction`.
+-- Proves that the remainder of h·u by b is t, and that b divides what is left. Assumes nothing.
+use mathlib.Core.Path.{_≡_, refl, sym, _∙_, ap}
+use mathlib.Core.List.{List}
+use Prim.Native.Nat.{ℕ, _≤_, _+_ as _+ℕ_}
+use native.Mathlib.Nat.{add-comm}
+use Rattle.algebra.specs.Ring.{CommRing, mul-one, add-zero, linear2}
+use Rattle.algebra.specs.Identities.{con, _⊕_, _⊖_, _⊗_, ⊝_, _≈_, solve}
+use Rattle.algebra.specs.Residues.{Residues}
+use Rattle.algebra.specs.Polynomials.{PolyRing, _+_, _·_, -_, 𝟎, 𝟏}
+use Rattle.algebra.specs.Degree.{Below, Monic, below-𝟎, below-add, below-neg, below-mul, below-factor}
+use Rattle.algebra.specs.CoefficientLists.{ℤ[x]/, poly, Reduced}
+use Rattle.algebra.specs.Congruence.{Congruent, congruent-equal, congruent-trans, congruent-mul, congruent-unique}
+use Rattle.modular.specs.Coefficients.{Represents}
+use Rattle.modular.specs.Division.{DividedBy}
+use Rattle.quotients.specs.Remainder.{Remainder}
+
+-- u·a = 1 modulo b, which is of degree j
+pub record Inverse (p : ℕ) (a b : List ℕ) (j : ℕ) (u : List ℕ) : Type 0 where
+  pub small : Below j (poly p u)
+  pub inverts : Congruent (PolyRing (Residues p)) (poly p b) (poly p u · poly p a) 𝟏
+
+-- h is of lower degree than a·b
+pub record Given (p : ℕ) (h a : List ℕ) (i : ℕ) (b : List ℕ) (j : ℕ) (u : List ℕ) : Type 0 where
+  pub fits : i +ℕ j ≤ 32
+  pub reduced : Reduced p 33 h
+  pub small : Below (i +ℕ j) (poly p h)
+  pub monic-first : Monic i (poly p a)
+  pub monic-second : Monic j (poly p b)
+  pub inverse : Inverse p a b j u
+
+pub record Correction (p : ℕ) (h a : List ℕ) (i : ℕ) (b : List ℕ) (j : ℕ) (s t : List ℕ) : Type 0 where
+  pub first : Reduced p 33 s
+  pub small-first : Below i (poly p s)
+  pub second : Reduced p 33 t
+  pub small-second : Below j (poly p t)
+  pub law : poly p s · poly p b + poly p t · poly p a ≡ poly p h
+
+module _ {p : ℕ} {h a b u : List ℕ} {i j : ℕ} (G : Given p h a i b j u) where
+  abbrev 𝓑 : CommRing (ℤ[x]/ p)
+  𝓑 = PolyRing (Residues p)
+
+  module _ {r t ta e : List ℕ} (hr : Remainder p b j r (poly p h)) (ht : Remainder p b j t (poly p r · poly p u))
+      (hta : Represents p ta (poly p t · poly p a)) (he : Represents p e (poly p h + - poly p ta)) where
+    -- t·a = h modulo b
+    same : Congruent 𝓑 (poly p b) (poly p t · poly p a) (poly p h)
+    same =
+        congruent-trans 𝓑 (congruent-mul 𝓑 (ht .congruent) (congruent-equal 𝓑 refl))
+        (congruent-trans 𝓑 (congruent-equal 𝓑 (𝓑 .*-assoc (poly p r) (poly p u) (poly p a)))
+        (congruent-trans 𝓑 (congruent-mul 𝓑 (hr .congruent) (G .inverse .inverts)) (congruent-equal 𝓑 (mul-one 𝓑 (poly p h)))))
+
+    left : poly p e ≡ poly p h + - (poly p t · poly p a)
+    left = he .is ∙ ap (λ c. poly p h + - c) (hta .is)
+
+    pub small-left : Below (i +ℕ j) (poly p e)
+    small-left = rw left (below-add (G .small) (below-neg (rw (add-comm i j) (below-mul (ht .small) (G .monic-first .below)))))
+
+    module _ {s w : List ℕ} (hs : DividedBy p e b j s w) where
+      -- so b leaves nothing
+      nothing : poly p w ≡ 𝟎
+      nothing =
+          congruent-unique (G .monic-second) (hs .small) (below-𝟎 j) divisor
+        where
+          divisor : Congruent 𝓑 (poly p b) (poly p w) 𝟎
+          divisor = let (k, d) = same in (
+            - (poly p s) + - k,
+            linear2 𝓑 (- 𝟏) (- 𝟏) (hs .law ∙ left) d
+                (solve 𝓑 6 (λ s k b w h c. (⊝ s ⊖ k) ⊗ b ⊖ (w ⊖ con 0) ≈ ⊝ con 1 ⊗ (s ⊗ b ⊕ w ⊖ (h ⊖ c)) ⊕ ⊝ con 1 ⊗ (k ⊗ b ⊖ (c ⊖ h))) tt
+                (poly p s) k (poly p b) (poly p w) (poly p h) (poly p t · poly p a)),
+          )
+
+      exact : poly p s · poly p b ≡ poly p e
+      exact = sym (add-zero 𝓑 (poly p s · poly p b)) ∙ ap (λ c. poly p s · poly p b + c) (sym nothing) ∙ hs .law
+
+      pub correction-is : Correction p h a i b j s t
+      correction-is = record {
+        first = hs .quotient;
+        small-first = below-factor (G .monic-second) i (poly p s) (rw exact small-left);
+        second = ht .reduced;
+        small-second = ht .small;
+        law = ap (λ c. c + poly p t · poly p a) (exact ∙ left) ∙ solve 𝓑 2 (λ h c. h ⊖ c ⊕ c ≈ h) tt (poly p h) (poly p t · poly p a);
+      }

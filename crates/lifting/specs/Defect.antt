@@ -1,0 +1,127 @@
+-- How far a·b, read modulo p², is from f, where it is f modulo p: `Defect`, the h of f − a·b = p·h. `Over p a r`: the entries of a over p.
+-- Proves what the loop over the entries leaves, and that the entries of f − a·b over p are h. Assumes nothing.
+use mathlib.Core.Path.{_≡_, sym, _∙_, ap, ap₂}
+use mathlib.Core.List.{List, map}
+use mathlib.Core.Logic.{⊎-elim}
+use Prim.Native.Nat.{ℕ, _≤_, _<_, _/_, _+_ as _+ℕ_, _*_ as _*ℕ_, zero-le}
+use native.Mathlib.Nat.{mul-le-mul-left, zero-div, mod-add-div, mod-eq-of-lt}
+use native.Mathlib.Omega.{arith}
+use lib.ListN.{length, getD, replicate, length-replicate, List·getD-eq-default}
+use Rattle.loops.specs.Entries.{Replaced}
+use Rattle.algebra.specs.Numbers.{lt-or-le}
+use Rattle.algebra.specs.Ring.{CommRing, linear1}
+use Rattle.algebra.specs.Identities.{con, _⊕_, _⊖_, _⊗_, _≈_, solve}
+use Rattle.algebra.specs.Residues.{residue, Residues, residue-zero, residue-one, same-remainder}
+use Rattle.algebra.specs.Polynomials.{PolyRing, _+_, _·_, -_, 𝟏, constant, poly-ext}
+use Rattle.algebra.specs.Degree.{Below, Monic, monic-mul}
+use Rattle.algebra.specs.Homomorphisms.{below-map}
+use Rattle.algebra.specs.Fields.{Prime}
+use Rattle.algebra.specs.CoefficientLists.{ℤ[x]/, poly, Reduced, coef-poly}
+use Rattle.algebra.specs.ListShapes.{getD-map}
+use Rattle.factorisation.specs.Kernel.{kernel-sub}
+use Rattle.factorisation.specs.MonicDivisors.{monic-difference}
+use Rattle.factorisation.specs.ExtensionLaws.{bar-mul}
+use Rattle.factorisation.specs.PolynomialExtension.{below-part}
+use Rattle.theorems.specs.Reductions.{coefficients, barred, bar-poly}
+use Rattle.theorems.specs.ListExtension.{extension, π-is, part-list}
+use Rattle.modular.specs.Coefficients.{Represents}
+
+-- r has the entries of a, each over p
+pub record Over (p : ℕ) (a r : List ℕ) : Type 0 where
+  pub len : length r ≡ 33
+  pub at : (k : ℕ) → getD r k 0 ≡ getD a k 0 / p
+
+pub over-done : {p : ℕ} {a r : List ℕ} {k : ℕ} → length a ≤ 33 → Replaced 0 (λ k. getD a k 0 / p) (replicate 33 0) 0 r k → 33 ≤ k → Over p a r
+over-done {p} {a} {r} e w l = record { len = long; at = λ j. ⊎-elim (λ u. w .new j zero-le (omega arith)) (past j) (lt-or-le j 33) }
+  where
+    long : length r ≡ 33
+    long = w .len ∙ length-replicate {A = ℕ} 33 0
+
+    past : (j : ℕ) → 33 ≤ j → getD r j 0 ≡ getD a j 0 / p
+    past j u =
+        List·getD-eq-default r 0 {n = j} (omega (arith, long))
+        ∙ sym (ap (λ (c : ℕ). c / p) (List·getD-eq-default a 0 {n = j} (omega arith)) ∙ zero-div p)
+
+quotient-low : (c p : ℕ) → c < p *ℕ p → c / p < p
+quotient-low c p l = ⊎-elim (λ u. u) (λ u. absurd (omega (arith, mod-add-div c p, mul-le-mul-left p u))) (lt-or-le (c / p) p)
+
+-- f is monic modulo p², and modulo p it is a·b
+pub record Factors (p : ℕ) (f a : List ℕ) (i : ℕ) (b : List ℕ) (j : ℕ) : Type 0 where
+  pub prime : Prime p
+  pub fits : i +ℕ j ≤ 32
+  pub whole : Reduced (p *ℕ p) 33 f
+  pub monic : Monic (i +ℕ j) (poly (p *ℕ p) f)
+  pub first : Reduced p 33 a
+  pub monic-first : Monic i (poly p a)
+  pub second : Reduced p 33 b
+  pub monic-second : Monic j (poly p b)
+  pub multiplies : poly p a · poly p b ≡ poly p f
+
+pub record Defect (p : ℕ) (f a : List ℕ) (i : ℕ) (b : List ℕ) (j : ℕ) (h : List ℕ) : Type 0 where
+  pub reduced : Reduced p 33 h
+  pub small : Below (i +ℕ j) (poly p h)
+  pub law : poly (p *ℕ p) f ≡ poly (p *ℕ p) a · poly (p *ℕ p) b + constant (residue (p *ℕ p) p) · poly (p *ℕ p) h
+
+module _ {p : ℕ} (large : 1 < p) where
+  -- digits below p read modulo p²
+  pub digits-reduced : {a : List ℕ} → Reduced p 33 a → Reduced (p *ℕ p) 33 a
+  digits-reduced r = record { len = r .len; low = λ k. omega (arith, r .low k, mul-le-mul-left p (let l : 1 ≤ p = omega arith in l)) }
+
+  digit : {a : List ℕ} → Reduced p 33 a → (k c : ℕ) → c < p → residue p (getD a k 0) ≡ residue p c → getD a k 0 ≡ c
+  digit {a} r k c l e = sym (mod-eq-of-lt (r .low k)) ∙ same-remainder p (omega arith) (getD a k 0) c e ∙ mod-eq-of-lt l
+
+  pub digits-below : {a : List ℕ} {i : ℕ} → Reduced p 33 a → Below i (poly p a) → Below i (poly (p *ℕ p) a)
+  digits-below {a} r h = record {
+    high = λ k l. coef-poly (p *ℕ p) a k
+        ∙ ap (residue (p *ℕ p)) (digit r k 0 (omega arith) (sym (coef-poly p a k) ∙ h .high k l ∙ sym (residue-zero p))) ∙ residue-zero (p *ℕ p);
+  }
+
+  pub digits-monic : {a : List ℕ} {i : ℕ} → Reduced p 33 a → Monic i (poly p a) → Monic i (poly (p *ℕ p) a)
+  digits-monic {a} {i} r m = record {
+    leading = coef-poly (p *ℕ p) a i ∙ ap (residue (p *ℕ p)) (digit r i 1 large (sym (coef-poly p a i) ∙ m .leading ∙ sym (residue-one p))) ∙ residue-one (p *ℕ p);
+    below = digits-below r (m .below);
+  }
+
+module _ {p : ℕ} {f a b : List ℕ} {i j : ℕ} (F : Factors p f a i b j) where
+  abbrev large : 1 < p
+  large = F .prime .large
+
+  abbrev 𝓐 : CommRing (ℤ[x]/ (p *ℕ p))
+  𝓐 = PolyRing (Residues (p *ℕ p))
+
+  pub first-monic : Monic i (poly (p *ℕ p) a)
+  first-monic = digits-monic large (F .first) (F .monic-first)
+
+  pub second-monic : Monic j (poly (p *ℕ p) b)
+  second-monic = digits-monic large (F .second) (F .monic-second)
+
+  module _ {ab e h : List ℕ} (hab : Represents (p *ℕ p) ab (poly (p *ℕ p) a · poly (p *ℕ p) b))
+      (he : Represents (p *ℕ p) e (poly (p *ℕ p) f + - poly (p *ℕ p) ab)) (hh : Over p e h) where
+    difference : poly (p *ℕ p) e ≡ poly (p *ℕ p) f + - (poly (p *ℕ p) a · poly (p *ℕ p) b)
+    difference = he .is ∙ ap (λ c. poly (p *ℕ p) f + - c) (hab .is)
+
+    same-bar : barred p large (poly (p *ℕ p) f) ≡ barred p large (poly (p *ℕ p) a · poly (p *ℕ p) b)
+    same-bar =
+        bar-poly p large f ∙ sym (F .multiplies) ∙ ap₂ _·_ (sym (bar-poly p large a)) (sym (bar-poly p large b))
+        ∙ sym (bar-mul (extension p large) (poly (p *ℕ p) a) (poly (p *ℕ p) b))
+
+    part-is : extension p large .part (poly (p *ℕ p) e) ≡ poly (p *ℕ p) h
+    part-is = part-list p large e (he .reduced .low) ∙ poly-ext (λ k.
+        coef-poly (p *ℕ p) (map (λ (c : ℕ). c / p) e) k
+        ∙ ap (residue (p *ℕ p)) (getD-map (λ (c : ℕ). c / p) (zero-div p) e k ∙ sym (hh .at k)) ∙ sym (coef-poly (p *ℕ p) h k))
+
+    kernel : poly (p *ℕ p) e ≡ extension p large .π · poly (p *ℕ p) h
+    kernel =
+        extension p large .kernel (poly (p *ℕ p) e) (ap (barred p large) difference ∙ kernel-sub (extension p large) same-bar)
+        ∙ ap (λ c. extension p large .π · c) part-is
+
+    pub defect-is : Defect p f a i b j h
+    defect-is = record {
+      reduced = record { len = hh .len; low = λ k. rw (hh .at k) (quotient-low (getD e k 0) p (he .reduced .low k)) };
+      small = rw (← bar-poly p large h, ← part-is)
+          (below-map ((coefficients p large) .hom)
+          (below-part (coefficients p large) (rw difference (monic-difference (F .monic) (monic-mul first-monic second-monic)))));
+      law = linear1 𝓐 𝟏 (sym difference ∙ kernel ∙ ap (λ c. c · poly (p *ℕ p) h) (π-is p large))
+          (solve 𝓐 4 (λ f c π h. f ⊖ (c ⊕ π ⊗ h) ≈ con 1 ⊗ (f ⊖ c ⊖ π ⊗ h)) tt
+          (poly (p *ℕ p) f) (poly (p *ℕ p) a · poly (p *ℕ p) b) (constant (residue (p *ℕ p) p)) (poly (p *ℕ p) h));
+    }

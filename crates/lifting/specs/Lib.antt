@@ -1,0 +1,3 @@
+pub mod Defect
+pub mod Correction
+pub mod Lifted

@@ -1,0 +1,92 @@
+// One step of lifting: f = a·b modulo p, a and b coprime, gives factors of f modulo p² with these bars.
+// All is public for the crates above, and no entry point of the library.
+use modular::add_multiple;
+use modular::difference;
+use modular::divide;
+use modular::product;
+use quotients::product_modulo;
+use quotients::remainder;
+ghost use Prim.Native.Nat.{_<_};
+ghost use Rattle.lifting.specs.Defect.{Over, Factors, Defect};
+ghost use Rattle.lifting.specs.Correction.{Inverse, Given, Correction};
+ghost use Rattle.lifting.specs.Lifted.{Lifted};
+
+pub struct Pair {
+    pub first: [u16; 33],
+    pub second: [u16; 33],
+}
+
+// a / p, entry by entry.
+pub fn over(a: [u16; 33], p: u16) -> [u16; 33]
+    requires { ⌜ 0 < p ⌝ }
+    ensures { λ r. ⌜ Over p a r ⌝ }
+{
+    let mut r = [0u16; 33];
+    let mut k: usize = 0;
+    while k < 33 {
+        r[k] = a[k] / p;
+        k += 1;
+    }
+    r
+}
+
+// The h of f - a·b = p·h, modulo p².
+pub fn defect(f: [u16; 33], a: [u16; 33], i: usize, b: [u16; 33], j: usize, p: u16) -> [u16; 33]
+    requires { ⌜ (p < 256) × Factors p f a i b j ⌝ }
+    ensures { λ r. ⌜ Defect p f a i b j r ⌝ }
+{
+    let n = p * p;
+    let ab = product(a, i + 1, b, j + 1, n);
+    let e = difference(f, ab, n);
+    over(e, p)
+}
+
+// The s and t of s·b + t·a = h, modulo p: t is h·u modulo b, where u·a = 1 modulo b, and s is what is left over b.
+pub fn correction(
+    h: [u16; 33],
+    a: [u16; 33],
+    i: usize,
+    b: [u16; 33],
+    j: usize,
+    u: [u16; 33],
+    p: u16,
+) -> Pair
+    requires { ⌜ Given p h a i b j u ⌝ }
+    ensures { λ r. ⌜ Correction p h a i b j (r .first) (r .second) ⌝ }
+{
+    let r = remainder(h, i + j, b, j, p);
+    let t = product_modulo(r, u, b, j, p);
+    let ta = product(t, j, a, i + 1, p);
+    let left = divide(difference(h, ta, p), i + j, b, j, p);
+    let s = left.quotient;
+    Pair {
+        first: s,
+        second: t,
+    }
+}
+
+// a + p·s and b + p·t, where f - a·b = p·(s·b + t·a).
+pub fn lift(
+    f: [u16; 33],
+    a: [u16; 33],
+    i: usize,
+    b: [u16; 33],
+    j: usize,
+    u: [u16; 33],
+    p: u16,
+) -> Pair
+    requires { ⌜ (p < 256) × Factors p f a i b j × Inverse p a b j u ⌝ }
+    ensures { λ r. ⌜ Lifted p f a i b j (r .first) (r .second) ⌝ }
+{
+    let h = defect(f, a, i, b, j, p);
+    let c = correction(h, a, i, b, j, u, p);
+    let s = c.first;
+    let t = c.second;
+    let n = p * p;
+    let first = add_multiple(a, p, s, 0, i, n);
+    let second = add_multiple(b, p, t, 0, j, n);
+    Pair {
+        first: first,
+        second: second,
+    }
+}

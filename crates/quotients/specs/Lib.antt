@@ -1,0 +1,3 @@
+pub mod Remainder
+pub mod Product
+pub mod Power

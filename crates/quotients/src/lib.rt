@@ -1,0 +1,77 @@
+// Arithmetic modulo a monic polynomial q of degree d over ℤ/n, on arrays of 33 coefficients: remainders, multiples by x, products
+// and powers. Each answer is the one remainder of its polynomial by q; all is public for the crates above, and no entry point.
+ghost use Prim.Native.Nat.{_<_, _≤_};
+ghost use Rattle.algebra.specs.Divisibility.{pow};
+ghost use Rattle.algebra.specs.Residues.{Residues};
+ghost use Rattle.algebra.specs.Polynomials.{PolyRing, _·_, x};
+ghost use Rattle.algebra.specs.Degree.{Below, Monic};
+ghost use Rattle.algebra.specs.CoefficientLists.{poly, Reduced};
+ghost use Rattle.algebra.specs.Monomials.{x^};
+ghost use Rattle.quotients.specs.Remainder.{Remainder};
+
+// a modulo q, where a has s terms.
+pub fn remainder(a: [u16; 33], s: usize, q: [u16; 33], d: usize, n: u16) -> [u16; 33]
+    requires { ⌜ Reduced n 33 a × (s ≤ 33) × (d < 33) × Below s (poly n a) × Monic d (poly n q) ⌝ }
+    ensures { λ r. ⌜ Remainder n q d r (poly n a) ⌝ }
+{
+    let t = modular::divide(a, s, q, d, n);
+    t.remainder
+}
+
+// x·a modulo q, where a has d terms: one turn of a division.
+pub fn shift(a: [u16; 33], q: [u16; 33], d: usize, n: u16) -> [u16; 33]
+    requires { ⌜ (0 < n) × (d < 33) × Below d (poly n a) × Monic d (poly n q) ⌝ }
+    ensures { λ r. ⌜ Remainder n q d r (x · poly n a) ⌝ }
+{
+    let zero = [0u16; 33];
+    let t = modular::add_multiple(zero, 1, a, 1, d, n);
+    remainder(t, d + 1, q, d, n)
+}
+
+// a·b modulo q, where b has d terms, by Horner's rule from the top of a: as many turns as a has terms.
+pub fn product_modulo(a: [u16; 33], b: [u16; 33], q: [u16; 33], d: usize, n: u16) -> [u16; 33]
+    requires { ⌜ (0 < n) × (d < 33) × Below d (poly n b) × Monic d (poly n q) ⌝ }
+    ensures { λ r. ⌜ Remainder n q d r (poly n a · poly n b) ⌝ }
+{
+    let mut r = [0u16; 33];
+    let mut i = modular::size(a);
+    while 0 < i {
+        let s = shift(r, q, d, n);
+        let v = modular::add_multiple(s, a[i - 1], b, 0, d, n);
+        r = v;
+        i -= 1;
+    }
+    r
+}
+
+// x^k modulo q, by k multiples by x.
+pub fn power_of_x(k: usize, q: [u16; 33], d: usize, n: u16) -> [u16; 33]
+    requires { ⌜ (1 < n) × (0 < d) × (d < 33) × Monic d (poly n q) ⌝ }
+    ensures { λ r. ⌜ Remainder n q d r (x^ k) ⌝ }
+{
+    let mut r = [0u16; 33];
+    r[0] = 1;
+    let mut i: usize = 0;
+    while i < k {
+        let v = shift(r, q, d, n);
+        r = v;
+        i += 1;
+    }
+    r
+}
+
+// a^k modulo q, by k products.
+pub fn power_modulo(a: [u16; 33], k: usize, q: [u16; 33], d: usize, n: u16) -> [u16; 33]
+    requires { ⌜ (1 < n) × (0 < d) × (d < 33) × Monic d (poly n q) ⌝ }
+    ensures { λ r. ⌜ Remainder n q d r (pow (PolyRing (Residues n)) (poly n a) k) ⌝ }
+{
+    let mut r = [0u16; 33];
+    r[0] = 1;
+    let mut j: usize = 0;
+    while j < k {
+        let v = product_modulo(a, r, q, d, n);
+        r = v;
+        j += 1;
+    }
+    r
+}
