@@ -1,0 +1,14 @@
+-- `euclid::multiple` meets its contract.
+-- Assumes nothing.
+use borrow.Author.Needs.{needs}
+use Rattle.modular.specs.Coefficients.{zeros}
+use Rattle.euclid.specs.MonicMultiples.{multiple-represented}
+use Rattle.euclid.proofs.multiple.Statement.{statement}
+use Rattle.euclid.proofs.multiple.Tie as tie
+
+pub multiple-spec : {M : Type 1} → statement M
+multiple-spec =
+    tie.close
+    (tie.spec
+    (λ c κs. ((zeros _ (c .pre .0)) .reduced, c .pre .2, search needs))  -- add-multiple-requires
+    (λ c. multiple-represented _ _ _ _ (c .before .pre .0) (c .add-multiple .ensures)))  -- returns

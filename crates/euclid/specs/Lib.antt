@@ -1,0 +1,6 @@
+pub mod Inverse
+pub mod MonicMultiples
+pub mod Rows
+pub mod DividedRow
+pub mod Next
+pub mod CommonDivisors

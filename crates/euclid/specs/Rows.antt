@@ -1,0 +1,120 @@
+-- The remainders of Euclid's algorithm for a and b over ℤ/p: `Leaves`, what a row says; `MonicRow`, a row made monic; `Formed` and
+-- `Combined`, the shape of two successive rows, and what they have to do with a and b.
+-- Proves that a row made monic says the same, and that b and a are the first two remainders. Assumes nothing.
+use mathlib.Core.Path.{_≡_, refl, sym, _∙_, ap}
+use mathlib.Core.List.{List, _∷_}
+use mathlib.Core.Logic.{⊎-elim}
+use Prim.Native.Nat.{ℕ, _≤_, _<_, _-_}
+use native.Mathlib.Nat.{mod-eq-of-lt, zero-mod, le-refl}
+use native.Mathlib.Omega.{arith}
+use lib.ListN.{getD, replicate}
+use Rattle.algebra.specs.Ring.{zero-mul, one-mul}
+use Rattle.algebra.specs.Identities.{_⊗_, _≈_, solve}
+use Rattle.algebra.specs.Divisibility.{_∣_, divides-refl}
+use Rattle.algebra.specs.Numbers.{lt-or-le}
+use Rattle.algebra.specs.Residues.{residue, Residues, residue-zero, same-remainder}
+use Rattle.algebra.specs.Polynomials.{PolyRing, _·_, constant}
+use Rattle.algebra.specs.Degree.{Below, Monic, below-up, below-constant-mul, below-𝟎}
+use Rattle.algebra.specs.CoefficientLists.{ℤ[x]/, poly, Reduced, coef-poly}
+use Rattle.algebra.specs.Congruence.{Congruent, congruent-sym, congruent-equal, congruent-mul, congruent-zero}
+use Rattle.modular.specs.Coefficients.{Represents, Size, zeros, below-unit}
+use Rattle.quotients.specs.Power.{one}
+use Rattle.euclid.specs.MonicMultiples.{MonicMultipleOf}
+use Rattle.euclid.specs.declared.Row.{Row}
+use Rattle.euclid.specs.declared.Rows.{Rows}
+
+-- cofactor·a leaves the remainder modulo b
+abbrev pub Leaves : (p : ℕ) → List ℕ → List ℕ → Row → Type 0
+Leaves p a b r = Congruent (PolyRing (Residues p)) (poly p b) (poly p (r .cofactor) · poly p a) (poly p (r .remainder))
+
+-- the remainder and the cofactor are reduced, and the cofactor has d terms
+pub record ReducedRow (p d : ℕ) (r : Row) : Type 0 where
+  pub remainder : Reduced p 33 (r .remainder)
+  pub cofactor : Reduced p 33 (r .cofactor)
+  pub small : Below d (poly p (r .cofactor))
+
+-- f is a constant times r, and monic, where r has the size s
+pub record MonicRow (p d s : ℕ) (r f : Row) : Type 0 where
+  pub reduced : ReducedRow p d f
+  pub unit : ℕ
+  pub remainder : MonicMultipleOf p (r .remainder) s (f .remainder) unit
+  pub cofactor : poly p (f .cofactor) ≡ constant (residue p unit) · poly p (r .cofactor)
+
+-- the former remainder is monic, and the latter of lower degree
+pub record Formed (p d : ℕ) (w : Rows) : Type 0 where
+  pub former : ReducedRow p d (w .former)
+  pub latter : ReducedRow p d (w .latter)
+  pub monic : Monic (w .degree) (poly p (w .former .remainder))
+  pub limit : w .degree ≤ d
+  pub size : Size (w .latter .remainder) (w .size)
+  pub fewer : w .size ≤ w .degree
+
+-- a common divisor of the two remainders divides a and b
+pub record Combined (p : ℕ) (a b : List ℕ) (w : Rows) : Type 0 where
+  pub former : Leaves p a b (w .former)
+  pub latter : Leaves p a b (w .latter)
+  pub common : (g : ℤ[x]/ p) → _∣_ (PolyRing (Residues p)) g (poly p (w .former .remainder))
+      → _∣_ (PolyRing (Residues p)) g (poly p (w .latter .remainder))
+      → _∣_ (PolyRing (Residues p)) g (poly p a) × _∣_ (PolyRing (Residues p)) g (poly p b)
+
+-- the first two rows: b = 0·a modulo b, and a = 1·a
+abbrev pub first : List ℕ → List ℕ → ℕ → ℕ → Rows
+first a b d s = record {
+  former = record { remainder = b; cofactor = replicate 33 0 };
+  degree = d;
+  latter = record { remainder = a; cofactor = 1 ∷ replicate 32 0 };
+  size = s;
+}
+
+module _ {p : ℕ} where
+  -- a bound on the terms is one on the size
+  pub size-below : {a : List ℕ} {s k : ℕ} → Reduced p 33 a → Size a s → Below k (poly p a) → s ≤ k
+  size-below {a} {s} {k} r z h = ⊎-elim (λ l. absurd (z .top (omega arith) (nothing l))) (λ l. l) (lt-or-le k s)
+    where
+      nothing : k < s → getD a (s - 1) 0 ≡ 0
+      nothing l =
+          sym (mod-eq-of-lt (r .low (s - 1)))
+          ∙ same-remainder p (omega (arith, r .low 0)) (getD a (s - 1) 0) 0
+          (sym (coef-poly p a (s - 1)) ∙ h .high (s - 1) (omega arith) ∙ sym (residue-zero p))
+          ∙ zero-mod p
+
+  pub monic-row : {d s c : ℕ} {r f : Row} → ReducedRow p d r → MonicMultipleOf p (r .remainder) s (f .remainder) c
+      → Represents p (f .cofactor) (constant (residue p c) · poly p (r .cofactor)) → MonicRow p d s r f
+  monic-row {c = c} h m k = record {
+    reduced = record {
+      remainder = m .multiple .reduced;
+      cofactor = k .reduced;
+      small = rw (k .is) (below-constant-mul (residue p c) (h .small));
+    };
+    unit = c;
+    remainder = m;
+    cofactor = k .is;
+  }
+
+  pub leaves-monic : (a b : List ℕ) {d s : ℕ} {r f : Row} → MonicRow p d s r f → Leaves p a b r → Leaves p a b f
+  leaves-monic a b {r = r} m h =
+      rw (
+        m .cofactor,
+        m .remainder .multiple .is,
+        solve (PolyRing (Residues p)) 3 (λ c u a. c ⊗ u ⊗ a ≈ c ⊗ (u ⊗ a)) tt (constant (residue p (m .unit))) (poly p (r .cofactor)) (poly p a),
+      )
+      (congruent-mul (PolyRing (Residues p)) (congruent-equal (PolyRing (Residues p)) refl) h)
+
+module _ (p : ℕ) (a b : List ℕ) (d s : ℕ) where
+  pub formed-first : 1 < p → 0 < d → Reduced p 33 a → Reduced p 33 b → Below d (poly p a) → Monic d (poly p b) → Size a s → Formed p d (first a b d s)
+  formed-first l pos ha hb h m z = record {
+    former = record { remainder = hb; cofactor = (zeros p (omega arith)) .reduced; small = rw ((zeros p (omega arith)) .is) (below-𝟎 d) };
+    latter = record { remainder = ha; cofactor = (one p l) .reduced; small = below-up pos (below-unit p 32) };
+    monic = m;
+    limit = le-refl d;
+    size = z;
+    fewer = size-below ha z h;
+  }
+
+  pub combined-first : 1 < p → Combined p a b (first a b d s)
+  combined-first l = record {
+    former = rw ((zeros p (omega arith)) .is, zero-mul (PolyRing (Residues p)) (poly p a))
+        (congruent-sym (PolyRing (Residues p)) (congruent-zero (PolyRing (Residues p)) (divides-refl (PolyRing (Residues p)) (poly p b))));
+    latter = congruent-equal (PolyRing (Residues p)) (ap (λ u. u · poly p a) ((one p l) .is) ∙ one-mul (PolyRing (Residues p)) (poly p a));
+    common = λ g h k. (k, h);
+  }

@@ -1,0 +1,161 @@
+// Euclid's algorithm on polynomials over ℤ/p, for a taken prime p, on arrays of 33 coefficients: the inverse of a constant, the
+// monic multiple, and the monic gcd with one cofactor. All is public for the crates above, and no entry point of the library.
+ghost use mathlib.Core.Path.{_≡_};
+ghost use mathlib.Core.Bool.{true};
+ghost use Prim.Native.Nat.{_<_, _≤_, _%_, _*_};
+ghost use Rattle.specification.specs.Limits.{taken};
+ghost use Rattle.algebra.specs.Residues.{residue};
+ghost use Rattle.algebra.specs.Polynomials.{_·_, constant};
+ghost use Rattle.algebra.specs.Degree.{Below, Monic};
+ghost use Rattle.algebra.specs.CoefficientLists.{poly, Reduced};
+ghost use Rattle.modular.specs.Coefficients.{Represents, Size};
+ghost use Rattle.euclid.specs.MonicMultiples.{MonicMultipleOf};
+ghost use Rattle.euclid.specs.Rows.{ReducedRow, MonicRow, Formed};
+ghost use Rattle.euclid.specs.DividedRow.{Operands, DividedRow};
+ghost use Rattle.euclid.specs.Next.{NextOf};
+ghost use Rattle.euclid.specs.CommonDivisors.{GcdOf};
+
+// unit·a, which is monic.
+pub struct MonicMultiple {
+    pub array: [u16; 33],
+    pub unit: u16,
+}
+
+// A remainder of Euclid's algorithm for a and b: cofactor·a leaves it modulo b.
+struct Row {
+    remainder: [u16; 33],
+    cofactor: [u16; 33],
+}
+
+// Two successive remainders: the former is monic of the degree given, the latter has the size given.
+struct Rows {
+    former: Row,
+    degree: usize,
+    latter: Row,
+    size: usize,
+}
+
+// The gcd of a and b, its degree, and the cofactor of a: cofactor·a leaves the gcd modulo b.
+pub struct CommonDivisor {
+    pub gcd: [u16; 33],
+    pub degree: usize,
+    pub cofactor: [u16; 33],
+}
+
+// The inverse of c modulo p.
+pub fn inverse(c: u16, p: u16) -> u16
+    requires { ⌜ (taken p ≡ true) × (0 < c) × (c < p) ⌝ }
+    ensures { λ r. ⌜ (r < p) × (r * c % p ≡ 1) ⌝ }
+{
+    let r = inverses::inverse(p as u8, c);
+    modular::reduce(p, r as u64)
+}
+
+// c·a, where a has s terms.
+fn multiple(c: u16, a: [u16; 33], s: usize, p: u16) -> [u16; 33]
+    requires { ⌜ (0 < p) × (s ≤ 33) × Below s (poly p a) ⌝ }
+    ensures { λ r. ⌜ Represents p r (constant (residue p c) · poly p a) ⌝ }
+{
+    let zero = [0u16; 33];
+    modular::add_multiple(zero, c, a, 0, s, p)
+}
+
+// The monic multiple of a, which is not 0 and has the size s.
+pub fn monic_multiple(a: [u16; 33], s: usize, p: u16) -> MonicMultiple
+    requires { ⌜ (taken p ≡ true) × Reduced p 33 a × Size a s × (0 < s) ⌝ }
+    ensures { λ r. ⌜ MonicMultipleOf p a s (r .array) (r .unit) ⌝ }
+{
+    let unit = inverse(a[s - 1], p);
+    let array = multiple(unit, a, s, p);
+    MonicMultiple {
+        array: array,
+        unit: unit,
+    }
+}
+
+// A row made monic, where its remainder is not 0 and has the size s.
+fn monic_row(r: Row, s: usize, d: usize, p: u16) -> Row
+    requires { ⌜ (taken p ≡ true) × (0 < s) × (d < 33) × ReducedRow p d r × Size (r .remainder) s ⌝ }
+    ensures { λ f. ⌜ MonicRow p d s r f ⌝ }
+{
+    let a = r.remainder;
+    let u = r.cofactor;
+    let m = monic_multiple(a, s, p);
+    let v = multiple(m.unit, u, d, p);
+    let f = m.array;
+    Row {
+        remainder: f,
+        cofactor: v,
+    }
+}
+
+// The row that the division of r by f leaves, where r has s terms and f is monic of degree e.
+fn divide_row(r: Row, s: usize, f: Row, e: usize, b: [u16; 33], d: usize, p: u16) -> Row
+    requires { ⌜ (s ≤ 33) × (e < 33) × (d < 33) × Monic d (poly p b) × Operands p d s e r f ⌝ }
+    ensures { λ z. ⌜ DividedRow p b d e r f z ⌝ }
+{
+    let a = r.remainder;
+    let g = f.remainder;
+    let t = modular::divide(a, s, g, e, p);
+    let q = t.quotient;
+    let v = f.cofactor;
+    let k = quotients::product_modulo(q, v, b, d, p);
+    let u = r.cofactor;
+    let y = modular::difference(u, k, p);
+    let w = t.remainder;
+    Row {
+        remainder: w,
+        cofactor: y,
+    }
+}
+
+// One division of Euclid's algorithm: the latter remainder is made monic and divides the former.
+fn next(w: Rows, b: [u16; 33], d: usize, p: u16) -> Rows
+    requires { ⌜ (taken p ≡ true) × (d < 33) × Monic d (poly p b) × Formed p d w × (0 < w .size) ⌝ }
+    ensures { λ r. ⌜ NextOf p b d w r ⌝ }
+{
+    let e = w.size - 1;
+    let f = monic_row(w.latter, w.size, d, p);
+    let z = divide_row(w.former, w.degree + 1, f, e, b, d, p);
+    let r = z.remainder;
+    Rows {
+        former: f,
+        degree: e,
+        latter: z,
+        size: modular::size(r),
+    }
+}
+
+// The monic gcd of a and b, where b is monic of degree d and a has d terms: the last remainder that is not 0.
+pub fn gcd(a: [u16; 33], b: [u16; 33], d: usize, p: u16) -> CommonDivisor
+    requires { ⌜ (taken p ≡ true) × (0 < d) × (d < 33) × Reduced p 33 a × Reduced p 33 b × Below d (poly p a) × Monic d (poly p b) ⌝ }
+    ensures { λ r. ⌜ GcdOf p a b d (r .gcd) (r .degree) (r .cofactor) ⌝ }
+{
+    let zero = [0u16; 33];
+    let mut one = [0u16; 33];
+    one[0] = 1;
+    let mut w = Rows {
+        former: Row {
+            remainder: b,
+            cofactor: zero,
+        },
+        degree: d,
+        latter: Row {
+            remainder: a,
+            cofactor: one,
+        },
+        size: modular::size(a),
+    };
+    while 0 < w.size {
+        let v = next(w, b, d, p);
+        w = v;
+    }
+    let f = w.former;
+    let g = f.remainder;
+    let u = f.cofactor;
+    CommonDivisor {
+        gcd: g,
+        degree: w.degree,
+        cofactor: u,
+    }
+}

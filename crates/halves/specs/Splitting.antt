@@ -1,0 +1,161 @@
+-- Coprime factors by a splitting element: `Split`, what is given, `HalvesOf`, what comes of it, and `Coprimes`, what the loop over the
+-- constants has seen. Proves that a gcd of degree 1 or more splits Q, and that one of the constants has such a gcd. Assumes nothing.
+use mathlib.Core.Path.{_≡_, sym, _∙_, ap, ap₂, subst}
+use mathlib.Core.Bool.{true}
+use mathlib.Core.List.{List, _∷_}
+use mathlib.Core.Logic.{_≢_, inl}
+use lib.ListN.{replicate}
+use lib.Dec.{T}
+use Prim.Native.Nat.{ℕ, _≤_, _<_, _-_, _+_ as _+ℕ_}
+use native.Mathlib.Nat.{pos-of-ne-zero}
+use native.Mathlib.Decide.{ℕ-discrete}
+use native.Mathlib.Omega.{arith}
+use Rattle.specification.specs.Limits.{taken}
+use Rattle.algebra.specs.Ring.{CommRing, add-zero, linear1}
+use Rattle.algebra.specs.Identities.{con, _⊕_, _⊖_, _⊗_, ⊝_, _≈_, solve}
+use Rattle.algebra.specs.Divisibility.{_∣_, Coprime}
+use Rattle.algebra.specs.Residues.{ℤ/, residue, Residues, residue-value, value-below}
+use Rattle.algebra.specs.Polynomials.{PolyRing, _+_, _·_, -_, 𝟎, 𝟏, constant, constant-zero}
+use Rattle.algebra.specs.Monomials.{x^, shift-zero}
+use Rattle.algebra.specs.Degree.{Below, Monic, below-𝟎, below-add, below-neg, below-up, below-constant, below-zero, monic-zero, monic-one, monic-mul}
+use Rattle.algebra.specs.Division.{divided-unique}
+use Rattle.algebra.specs.Fields.{Prime, prime-pos, residue-field, residue-nontrivial, taken-prime}
+use Rattle.algebra.specs.Bezout.{MonicBezout, bezout-monic}
+use Rattle.algebra.specs.CoefficientLists.{ℤ[x]/, poly, Reduced}
+use Rattle.factorisation.specs.MonicDivisors.{divisor-degree, monic-degree, monic-nonzero}
+use Rattle.frobenius.specs.SplittingElements.{CoprimeFactors, SplittingElement, splitting-constant, splitting-factors}
+use Rattle.modular.specs.Coefficients.{Represents, poly-unit, constant-residue-neg}
+use Rattle.modular.specs.Division.{DividedBy}
+use Rattle.euclid.specs.CommonDivisors.{GcdOf, gcd-greatest}
+
+-- Q is monic of degree d, and v is a splitting element of it
+pub record Split (p : ℕ) (q : List ℕ) (d : ℕ) (v : List ℕ) : Type 0 where
+  pub prime : taken p ≡ true
+  pub fits : d < 33
+  pub reduced : Reduced p 33 q
+  pub monic : Monic d (poly p q)
+  pub element : Reduced p 33 v
+  pub splits : SplittingElement p d (poly p q) (poly p v)
+
+-- Q is a·b, and a, of degree i, is coprime to b
+pub record HalvesOf (p : ℕ) (q : List ℕ) (d : ℕ) (a : List ℕ) (i : ℕ) (b : List ℕ) : Type 0 where
+  pub first : Reduced p 33 a
+  pub monic-first : Monic i (poly p a)
+  pub second : Reduced p 33 b
+  pub monic-second : Monic (d - i) (poly p b)
+  pub positive : 1 ≤ i
+  pub less : i < d
+  pub coprime : Coprime (PolyRing (Residues p)) (poly p a) (poly p b)
+  pub multiplies : poly p a · poly p b ≡ poly p q
+
+-- v + (p − c)·1
+pub less-constant : (p c : ℕ) (v r : List ℕ) → 0 < p → c ≤ p
+    → Represents p r (poly p v + constant (residue p (p - c)) · (x^ 0 · poly p (1 ∷ replicate 32 0))) → Represents p r (poly p v + - constant (residue p c))
+less-constant p c v r pos l h = record {
+  reduced = h .reduced;
+  is = h .is
+      ∙ ap₂ (λ a b. poly p v + a · b) (constant-residue-neg p pos l) (shift-zero (poly p (1 ∷ replicate 32 0)) ∙ poly-unit p 32)
+      ∙ solve (PolyRing (Residues p)) 2 (λ v c. v ⊕ ⊝ c ⊗ con 1 ≈ v ⊖ c) tt (poly p v) (constant (residue p c));
+}
+
+module _ {p : ℕ} {q v : List ℕ} {d : ℕ} (S : Split p q d v) where
+  abbrev 𝓑 : CommRing (ℤ[x]/ p)
+  𝓑 = PolyRing (Residues p)
+
+  pub is-prime : Prime p
+  is-prime = taken-prime p (subst T (sym (S .prime)) tt)
+
+  nontrivial : (Residues p) .𝟙 ≢ (Residues p) .𝟘
+  nontrivial = residue-nontrivial (is-prime .large)
+
+  -- v − c
+  abbrev pub less : ℕ → ℤ[x]/ p
+  less c = poly p v + - constant (residue p c)
+
+  pub positive : 1 ≤ d
+  positive =
+      pos-of-ne-zero (λ e. S .splits .nonconstant ((Residues p) .𝟘)
+      (below-zero (rw e at (S .splits .small)) ∙ sym (constant-zero (Residues p))))
+
+  pub less-small : (c : ℕ) → Below d (less c)
+  less-small c = below-add (S .splits .small) (below-neg (below-up positive (below-constant (residue p c))))
+
+  module _ (c : ℕ) {w g u : List ℕ} {e : ℕ} (hw : Represents p w (less c)) (hg : GcdOf p w q d g e u) where
+    bezout : MonicBezout (residue-field p is-prime) (poly p q) (less c)
+    bezout = record {
+      degree = e;
+      combined = record {
+        gcd = poly p g;
+        u = - (hg .combination .0);
+        v = poly p u;
+        combination = linear1 𝓑 (- 𝟏) (hg .combination .1 ∙ ap (λ a. poly p u · a + - poly p g) (hw .is))
+            (solve 𝓑 5 (λ k q u w g. ⊝ k ⊗ q ⊕ u ⊗ w ⊖ g ≈ ⊝ con 1 ⊗ (k ⊗ q ⊖ (u ⊗ w ⊖ g))) tt
+            (hg .combination .0) (poly p q) (poly p u) (less c) (poly p g));
+        left = hg .right;
+        right = rw (hw .is) at (hg .left);
+      };
+      monic = hg .monic;
+    }
+
+    not-one : 0 < e → poly p g ≢ 𝟏
+    not-one l k = omega (arith, monic-degree nontrivial (hg .monic) (subst (Monic 0) (sym k) monic-one))
+
+    -- a gcd of degree 1 or more splits Q
+    pub halves-of : {b r : List ℕ} → 0 < e → DividedBy p q g e b r → HalvesOf p q d g e b
+    unfolding bezout
+    halves-of {b} {r} l h = go (splitting-factors is-prime (S .monic) (S .splits) (residue p c) bezout (not-one l))
+      where
+        go : (b′ : ℤ[x]/ p) × CoprimeFactors (poly p q) (poly p g) b′ → HalvesOf p q d g e b
+        go (b′, F) = record {
+          first = hg .reduced;
+          monic-first = hg .monic;
+          second = h .quotient;
+          monic-second = rw same (subst (λ (k : ℕ). Monic k b′) degree (F .monic-b));
+          positive = l;
+          less = omega (arith, degrees, F .positive-b, same-degree);
+          coprime = rw same (F .coprime);
+          multiplies = rw same (F .multiplies);
+        }
+          where
+            same : poly p b ≡ b′
+            same =
+                divided-unique (hg .monic) (poly p b) (poly p r) b′ 𝟎 (h .small) (below-𝟎 e)
+                (h .law ∙ sym (F .multiplies) ∙ 𝓑 .*-comm (poly p g) b′ ∙ sym (add-zero 𝓑 (b′ · poly p g))) .0
+
+            same-degree : F .i ≡ e
+            same-degree = monic-degree nontrivial (F .monic-a) (hg .monic)
+
+            degrees : F .i +ℕ F .j ≡ d
+            degrees =
+                monic-degree nontrivial (monic-mul (F .monic-a) (F .monic-b)) (rw (F .multiplies) (S .monic))
+
+            degree : F .j ≡ d - e
+            degree = omega (arith, degrees, same-degree)
+
+    -- a gcd of degree 0 is 1
+    pub coprime-at : e ≤ 0 → (z : MonicBezout (residue-field p is-prime) (poly p q) (less c)) → z .combined .gcd ≡ 𝟏
+    coprime-at l z =
+        monic-zero (rw (let k : z .degree ≡ 0 = omega (arith, divisor-degree nontrivial (z .monic) (hg .monic) divides) in k) at (z .monic))
+      where
+        divides : _∣_ 𝓑 (z .combined .gcd) (poly p g)
+        divides = gcd-greatest hg (z .combined .gcd) (rw (hw .is) (z .combined .right)) (z .combined .left)
+
+  -- the gcd of Q and v − k is 1, for k below c
+  abbrev pub Coprimes : ℕ → Type 0
+  Coprimes c = (k : ℕ) → k < c → (z : MonicBezout (residue-field p is-prime) (poly p q) (less k)) → z .combined .gcd ≡ 𝟏
+
+  pub coprimes-more : (c : ℕ) → Coprimes c → ((z : MonicBezout (residue-field p is-prime) (poly p q) (less c)) → z .combined .gcd ≡ 𝟏) → Coprimes (c +ℕ 1)
+  coprimes-more c h new k l = at (ℕ-discrete k c)
+    where
+      at : Dec (k ≡ c) → (z : MonicBezout (residue-field p is-prime) (poly p q) (less k)) → z .combined .gcd ≡ 𝟏
+      at (yes e) = rw e new
+      at (no n) = h k (omega (arith, n))
+
+  pub not-all : Coprimes p → ⊥
+  not-all h = go (splitting-constant is-prime (S .monic) (S .splits))
+    where
+      go : (c : ℤ/ p) × ((z : MonicBezout (residue-field p is-prime) (poly p q) (poly p v + - constant c)) → z .combined .gcd ≢ 𝟏) → ⊥
+      go (c, n) =
+          let z = bezout-monic (residue-field p is-prime) (poly p q) (poly p v + - constant c) (inl (monic-nonzero nontrivial (S .monic))) in
+          n z (subst (λ (k : ℤ/ p). (z : MonicBezout (residue-field p is-prime) (poly p q) (poly p v + - constant k)) → z .combined .gcd ≡ 𝟏)
+          (residue-value p c) (h (c .value) (value-below p (prime-pos is-prime) c)) z)

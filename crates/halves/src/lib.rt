@@ -1,0 +1,56 @@
+// Coprime factors of Q modulo p from a splitting element v: the gcd of Q and the first v - c that has a factor in common with Q, and what
+// it leaves of Q. All is public for the crates above, and no entry point of the library.
+ghost use mathlib.Core.Path.{_≡_};
+ghost use mathlib.Core.Bool.{true};
+ghost use Prim.Native.Nat.{_<_, _≤_};
+ghost use Rattle.specification.specs.Limits.{taken};
+ghost use Rattle.algebra.specs.Residues.{residue};
+ghost use Rattle.algebra.specs.Polynomials.{_+_, -_, constant};
+ghost use Rattle.algebra.specs.CoefficientLists.{poly, Reduced};
+ghost use Rattle.modular.specs.Coefficients.{Represents};
+ghost use Rattle.halves.specs.Splitting.{Split, HalvesOf};
+
+// Q is first·second; the first is of the degree given.
+pub struct Halves {
+    pub first: [u16; 33],
+    pub degree: usize,
+    pub second: [u16; 33],
+}
+
+// v - c.
+pub fn less_constant(v: [u16; 33], c: u16, p: u16) -> [u16; 33]
+    requires { ⌜ Reduced p 33 v × (c ≤ p) ⌝ }
+    ensures { λ r. ⌜ Represents p r (poly p v + - constant (residue p c)) ⌝ }
+{
+    let mut unit = [0u16; 33];
+    unit[0] = 1;
+    modular::add_multiple(v, p - c, unit, 0, 1, p)
+}
+
+// One of the v - c has a factor in common with Q, so that the loop does not run out.
+pub fn halve(q: [u16; 33], d: usize, v: [u16; 33], p: u16) -> Halves
+    requires { ⌜ Split p q d v ⌝ }
+    ensures { λ r. ⌜ HalvesOf p q d (r .first) (r .degree) (r .second) ⌝ }
+{
+    let mut c: u16 = 0;
+    while c < p {
+        let w = less_constant(v, c, p);
+        let g = euclid::gcd(w, q, d, p);
+        if 0 < g.degree {
+            let a = g.gcd;
+            let t = modular::divide(q, d + 1, a, g.degree, p);
+            let b = t.quotient;
+            return Halves {
+                first: a,
+                degree: g.degree,
+                second: b,
+            };
+        }
+        c += 1;
+    }
+    Halves {
+        first: q,
+        degree: d,
+        second: q,
+    }
+}
