@@ -1,18 +1,17 @@
--- How far a·b, read modulo p², is from f, where it is f modulo p: `Defect`, the h of f − a·b = p·h. `Over p a r`: the entries of a over p.
--- Proves what the loop over the entries leaves, and that the entries of f − a·b over p are h. Assumes nothing.
+-- How far a·b, read modulo p², is from f, where it is f modulo p: `Defect`, the h of f − a·b = p·h.
+-- Proves that the entries of f − a·b over p are h. Assumes nothing.
 use mathlib.Core.Path.{_≡_, sym, _∙_, ap, ap₂}
 use mathlib.Core.List.{List, map}
 use mathlib.Core.Logic.{⊎-elim}
-use Prim.Native.Nat.{ℕ, _≤_, _<_, _/_, _+_ as _+ℕ_, _*_ as _*ℕ_, zero-le}
+use Prim.Native.Nat.{ℕ, _≤_, _<_, _/_, _+_ as _+ℕ_, _*_ as _*ℕ_}
 use native.Mathlib.Nat.{mul-le-mul-left, zero-div, mod-add-div, mod-eq-of-lt}
 use native.Mathlib.Omega.{arith}
-use lib.ListN.{length, getD, replicate, length-replicate, List·getD-eq-default}
-use Rattle.loops.specs.Entries.{Replaced}
+use lib.ListN.{length, getD, length-map}
 use Rattle.algebra.specs.Numbers.{lt-or-le}
 use Rattle.algebra.specs.Ring.{CommRing, linear1}
 use Rattle.algebra.specs.Identities.{con, _⊕_, _⊖_, _⊗_, _≈_, solve}
 use Rattle.algebra.specs.Residues.{residue, Residues, residue-zero, residue-one, same-remainder}
-use Rattle.algebra.specs.Polynomials.{PolyRing, _+_, _·_, -_, 𝟏, constant, poly-ext}
+use Rattle.algebra.specs.Polynomials.{PolyRing, _+_, _·_, -_, 𝟏, constant}
 use Rattle.algebra.specs.Degree.{Below, Monic, monic-mul}
 use Rattle.algebra.specs.Homomorphisms.{below-map}
 use Rattle.algebra.specs.Fields.{Prime}
@@ -25,22 +24,6 @@ use Rattle.factorisation.specs.PolynomialExtension.{below-part}
 use Rattle.theorems.specs.Reductions.{coefficients, barred, bar-poly}
 use Rattle.theorems.specs.ListExtension.{extension, π-is, part-list}
 use Rattle.modular.specs.Coefficients.{Represents}
-
--- r has the entries of a, each over p
-pub record Over (p : ℕ) (a r : List ℕ) : Type 0 where
-  pub len : length r ≡ 33
-  pub at : (k : ℕ) → getD r k 0 ≡ getD a k 0 / p
-
-pub over-done : {p : ℕ} {a r : List ℕ} {k : ℕ} → length a ≤ 33 → Replaced 0 (λ k. getD a k 0 / p) (replicate 33 0) 0 r k → 33 ≤ k → Over p a r
-over-done {p} {a} {r} e w l = record { len = long; at = λ j. ⊎-elim (λ u. w .new j zero-le (omega arith)) (past j) (lt-or-le j 33) }
-  where
-    long : length r ≡ 33
-    long = w .len ∙ length-replicate {A = ℕ} 33 0
-
-    past : (j : ℕ) → 33 ≤ j → getD r j 0 ≡ getD a j 0 / p
-    past j u =
-        List·getD-eq-default r 0 {n = j} (omega (arith, long))
-        ∙ sym (ap (λ (c : ℕ). c / p) (List·getD-eq-default a 0 {n = j} (omega arith)) ∙ zero-div p)
 
 quotient-low : (c p : ℕ) → c < p *ℕ p → c / p < p
 quotient-low c p l = ⊎-elim (λ u. u) (λ u. absurd (omega (arith, mod-add-div c p, mul-le-mul-left p u))) (lt-or-le (c / p) p)
@@ -96,7 +79,7 @@ module _ {p : ℕ} {f a b : List ℕ} {i j : ℕ} (F : Factors p f a i b j) wher
   second-monic = digits-monic large (F .second) (F .monic-second)
 
   module _ {ab e h : List ℕ} (hab : Represents (p *ℕ p) ab (poly (p *ℕ p) a · poly (p *ℕ p) b))
-      (he : Represents (p *ℕ p) e (poly (p *ℕ p) f + - poly (p *ℕ p) ab)) (hh : Over p e h) where
+      (he : Represents (p *ℕ p) e (poly (p *ℕ p) f + - poly (p *ℕ p) ab)) (hh : h ≡ map (λ v. v / p) e) where
     difference : poly (p *ℕ p) e ≡ poly (p *ℕ p) f + - (poly (p *ℕ p) a · poly (p *ℕ p) b)
     difference = he .is ∙ ap (λ c. poly (p *ℕ p) f + - c) (hab .is)
 
@@ -106,9 +89,7 @@ module _ {p : ℕ} {f a b : List ℕ} {i j : ℕ} (F : Factors p f a i b j) wher
         ∙ sym (bar-mul (extension p large) (poly (p *ℕ p) a) (poly (p *ℕ p) b))
 
     part-is : extension p large .part (poly (p *ℕ p) e) ≡ poly (p *ℕ p) h
-    part-is = part-list p large e (he .reduced .low) ∙ poly-ext (λ k.
-        coef-poly (p *ℕ p) (map (λ (c : ℕ). c / p) e) k
-        ∙ ap (residue (p *ℕ p)) (getD-map (λ (c : ℕ). c / p) (zero-div p) e k ∙ sym (hh .at k)) ∙ sym (coef-poly (p *ℕ p) h k))
+    part-is = part-list p large e (he .reduced .low) ∙ ap (poly (p *ℕ p)) (sym hh)
 
     kernel : poly (p *ℕ p) e ≡ extension p large .π · poly (p *ℕ p) h
     kernel =
@@ -117,7 +98,10 @@ module _ {p : ℕ} {f a b : List ℕ} {i j : ℕ} (F : Factors p f a i b j) wher
 
     pub defect-is : Defect p f a i b j h
     defect-is = record {
-      reduced = record { len = hh .len; low = λ k. rw (hh .at k) (quotient-low (getD e k 0) p (he .reduced .low k)) };
+      reduced = record {
+        len = ap length hh ∙ length-map e (λ v. v / p) ∙ he .reduced .len;
+        low = λ k. rw (ap (λ l. getD l k 0) hh ∙ getD-map (λ v. v / p) (zero-div p) e k) (quotient-low (getD e k 0) p (he .reduced .low k));
+      };
       small = rw (← bar-poly p large h, ← part-is)
           (below-map ((coefficients p large) .hom)
           (below-part (coefficients p large) (rw difference (monic-difference (F .monic) (monic-mul first-monic second-monic)))));

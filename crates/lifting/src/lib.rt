@@ -3,31 +3,18 @@
 use modular::add_multiple;
 use modular::difference;
 use modular::divide;
+use modular::over;
 use modular::product;
 use quotients::product_modulo;
 use quotients::remainder;
 ghost use Prim.Native.Nat.{_<_};
-ghost use Rattle.lifting.specs.Defect.{Over, Factors, Defect};
+ghost use Rattle.lifting.specs.Defect.{Factors, Defect};
 ghost use Rattle.lifting.specs.Correction.{Inverse, Given, Correction};
 ghost use Rattle.lifting.specs.Lifted.{Lifted};
 
 pub struct Pair {
     pub first: [u16; 33],
     pub second: [u16; 33],
-}
-
-// a / p, entry by entry.
-pub fn over(a: [u16; 33], p: u16) -> [u16; 33]
-    requires { ⌜ 0 < p ⌝ }
-    ensures { λ r. ⌜ Over p a r ⌝ }
-{
-    let mut r = [0u16; 33];
-    let mut k: usize = 0;
-    while k < 33 {
-        r[k] = a[k] / p;
-        k += 1;
-    }
-    r
 }
 
 // The h of f - a·b = p·h, modulo p².

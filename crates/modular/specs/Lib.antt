@@ -3,3 +3,4 @@ pub mod AddMultiple
 pub mod Sum
 pub mod Product
 pub mod Division
+pub mod Over

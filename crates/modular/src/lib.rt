@@ -1,7 +1,8 @@
 // Arithmetic modulo n on arrays of 33 coefficients, constant first: n is a prime or its square. Everything is built of one loop,
 // a + c·x^k·b. The contracts speak of polynomials over ℤ/n; all is public for the crates above, and no entry point of the library.
 ghost use mathlib.Core.Path.{_≡_};
-ghost use Prim.Native.Nat.{_<_, _≤_, _%_, _+_ as _+ℕ_, _*_ as _*ℕ_};
+ghost use mathlib.Core.List.{map};
+ghost use Prim.Native.Nat.{_<_, _≤_, _/_, _%_, _+_ as _+ℕ_, _*_ as _*ℕ_};
 ghost use lib.Dec.{ltb};
 ghost use Rattle.specification.specs.Lists.{all};
 ghost use Rattle.algebra.specs.Residues.{residue};
@@ -102,6 +103,20 @@ pub fn divide(a: [u16; 33], s: usize, b: [u16; 33], d: usize, n: u16) -> Divided
         quotient: q,
         remainder: w,
     }
+}
+
+// Every entry divided by p.
+pub fn over(a: [u16; 33], p: u16) -> [u16; 33]
+    requires { ⌜ 0 < p ⌝ }
+    ensures { λ r. ⌜ r ≡ map (λ v. v / p) a ⌝ }
+{
+    let mut r = a;
+    let mut i: usize = 0;
+    while i < 33 {
+        r[i] = a[i] / p;
+        i += 1;
+    }
+    r
 }
 
 // One more than the degree; 0 for the zero polynomial.

@@ -1,19 +1,19 @@
--- `lifting::over` meets its contract.
+-- `modular::over` meets its contract. The loop has divided the entries before i.
 -- Assumes nothing.
-use mathlib.Core.Path.{refl}
 use Prim.Native.Nat.{_-_, _/_}
-use lib.ListN.{getD, replicate}
+use mathlib.Core.Path.{refl}
+use lib.ListN.{getD}
 use borrow.Author.Needs.{needs}
 use Rattle.loops.specs.Entries.{Replaced, replaced-none, replaced-more}
-use Rattle.lifting.specs.Defect.{over-done}
-use Rattle.lifting.proofs.over.Statement.{statement}
-use Rattle.lifting.proofs.over.Tie as tie
+use Rattle.modular.specs.Over.{over-done}
+use Rattle.modular.proofs.over.Statement.{statement}
+use Rattle.modular.proofs.over.Tie as tie
 
 abbrev Inv-loop : tie.InvT-loop
-Inv-loop p a r₀ k₀ r k = Replaced 0 (λ k. getD a k 0 / p) (replicate 33 0) 0 r k
+Inv-loop p a r₀ i₀ r i = Replaced 0 (λ j. getD a j 0 / p) a 0 r i
 
 abbrev μ-loop : tie.MeasureT-loop
-μ-loop p a r₀ k₀ r k = 33 - k
+μ-loop p a r₀ i₀ r i = 33 - i
 
 pub over-spec : {M : Type 1} → statement M
 over-spec =
@@ -25,7 +25,7 @@ over-spec =
     (λ c. search needs)  -- div-r
     (λ c. search needs)  -- mul-r-2
     (λ c. search needs)  -- array-write-r
-    (λ c. search needs)  -- add-k
+    (λ c. search needs)  -- add-i
     (λ c. search needs)  -- loop-less
     (λ c. replaced-more (c .before .loop .inv) (search needs) refl)  -- loop-again
-    (λ c. over-done (search needs) (c .before .loop .inv) (search needs)))  -- returns
+    (λ c. over-done _ (c .before .loop .inv) (search needs)))  -- returns
