@@ -1,3 +1,4 @@
 pub mod Defect
 pub mod Correction
+pub mod CoprimePair
 pub mod Lifted

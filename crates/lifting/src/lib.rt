@@ -1,5 +1,6 @@
 // One step of lifting: f = a·b modulo p, a and b coprime, gives factors of f modulo p² with these bars.
 // All is public for the crates above, and no entry point of the library.
+use euclid::gcd;
 use modular::add_multiple;
 use modular::difference;
 use modular::divide;
@@ -10,6 +11,7 @@ use quotients::remainder;
 ghost use Prim.Native.Nat.{_<_};
 ghost use Rattle.lifting.specs.Defect.{Factors, Defect};
 ghost use Rattle.lifting.specs.Correction.{Inverse, Given, Correction};
+ghost use Rattle.lifting.specs.CoprimePair.{CoprimePair};
 ghost use Rattle.lifting.specs.Lifted.{Lifted};
 
 pub struct Pair {
@@ -52,8 +54,18 @@ pub fn correction(
     }
 }
 
+// The inverse of a modulo b, where they are coprime.
+pub fn inverse_modulo(a: [u16; 33], i: usize, b: [u16; 33], j: usize, p: u16) -> [u16; 33]
+    requires { ⌜ CoprimePair p a i b j ⌝ }
+    ensures { λ r. ⌜ Inverse p a b j r ⌝ }
+{
+    let r = remainder(a, i + 1, b, j, p);
+    let g = gcd(r, b, j, p);
+    g.cofactor
+}
+
 // a + p·s and b + p·t, where f - a·b = p·(s·b + t·a).
-pub fn lift(
+pub fn lift_by(
     f: [u16; 33],
     a: [u16; 33],
     i: usize,
@@ -76,4 +88,13 @@ pub fn lift(
         first: first,
         second: second,
     }
+}
+
+// The factors of f modulo p² whose bars are a and b, where these are coprime.
+pub fn lift(f: [u16; 33], a: [u16; 33], i: usize, b: [u16; 33], j: usize, p: u16) -> Pair
+    requires { ⌜ Factors p f a i b j × CoprimePair p a i b j ⌝ }
+    ensures { λ r. ⌜ Lifted p f a i b j (r .first) (r .second) ⌝ }
+{
+    let u = inverse_modulo(a, i, b, j, p);
+    lift_by(f, a, i, b, j, u, p)
 }

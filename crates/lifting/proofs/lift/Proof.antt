@@ -1,10 +1,7 @@
 -- `lifting::lift` meets its contract.
 -- Assumes nothing.
-use native.Mathlib.Nat.{mul-le-mul}
-use native.Mathlib.Omega.{arith}
 use borrow.Author.Needs.{needs}
-use Rattle.lifting.specs.Defect.{digits-reduced, digits-below}
-use Rattle.lifting.specs.Lifted.{lifted-is}
+use Rattle.euclid.specs.Inverse.{fits-byte}
 use Rattle.lifting.proofs.lift.Statement.{statement}
 use Rattle.lifting.proofs.lift.Tie as tie
 
@@ -12,20 +9,6 @@ pub lift-spec : {M : Type 1} → statement M
 lift-spec =
     tie.close
     (tie.spec
-    (λ c κs. search needs)  -- defect-requires
-    (λ c κs. search needs)  -- correction-requires
-    (λ c.
-    let p = c .before .before .before .before .args .p in
-    omega (arith, mul-le-mul {n₁ = p} {m₁ = p} {n₂ = 255} {m₂ = 255} (omega arith) (omega arith)))  -- mul-n
-    (λ c κs.
-    let F = c .before .before .before .before .pre .1 in
-    let C = c .before .before .correction .ensures in
-    (digits-reduced (F .prime .large) (F .first), digits-below (F .prime .large) (C .first) (C .small-first), omega (arith, F .fits)))  -- add-multiple-requires
-    (λ c κs.
-    let F = c .before .before .before .before .before .pre .1 in
-    let C = c .before .before .before .correction .ensures in
-    (digits-reduced (F .prime .large) (F .second), digits-below (F .prime .large) (C .second) (C .small-second), omega (arith, F .fits)))  -- add-multiple-requires-2
-    (λ c.
-    let d = c .before .before .before .before in
-    let F = d .before .before .pre .1 in
-    lifted-is (F .prime .large) F (d .before .defect .ensures) (d .correction .ensures) (c .before .add-multiple .ensures) (c .add-multiple2 .ensures)))  -- returns
+    (λ c κs. search needs)  -- inverse-modulo-requires
+    (λ c κs. (fits-byte (c .before .pre .1 .prime), c .before .pre .0, c .inverse-modulo .ensures))  -- lift-by-requires
+    (λ c. search needs))  -- returns

@@ -1,0 +1,6 @@
+pub mod Inverse
+pub mod Monomials
+pub mod Rows
+pub mod Reduction
+pub mod Storing
+pub mod Dependency

@@ -1,0 +1,72 @@
+-- Rows in an array of 33 slots: `imageAt p rows k` and `preimageAt p rows k` are the polynomials of slot k. `Rows p i rows`: the image in slot k
+-- has at most degree k, and the preimage a lower degree than i.
+-- Proves what the rows of a stage are, that no row is stored at first, and what the code's multiples are. Assumes nothing.
+use mathlib.Core.Path.{_≡_, refl, _∙_, ap, ap₂}
+use mathlib.Core.List.{List, []}
+use mathlib.Core.Logic.{_⊎_, ⊎-elim}
+use Prim.Native.Nat.{ℕ, suc, _<_, _≤_, _-_}
+use lib.ListN.{getD, replicate, getD-replicate, List·getD-eq-default}
+use Rattle.algebra.specs.Ring.{neg-mul}
+use Rattle.algebra.specs.Numbers.{lt-or-le}
+use Rattle.algebra.specs.Residues.{residue, Residues}
+use Rattle.algebra.specs.Polynomials.{PolyRing, _+_, _·_, -_, 𝟎, constant}
+use Rattle.algebra.specs.Degree.{Below, below-𝟎}
+use Rattle.algebra.specs.CoefficientLists.{ℤ[x]/, poly, poly-nil}
+use Rattle.algebra.specs.ListDivision.{poly-zeros}
+use Rattle.frobenius.specs.Span.{less}
+use Rattle.frobenius.specs.Reduction.{Stage, stage-none}
+use Rattle.algebra.specs.Monomials.{x^, shift-zero}
+use Rattle.modular.specs.Coefficients.{Represents, zeros, constant-residue-neg}
+use Rattle.dependency.specs.declared.Row.{Row}
+
+-- what is read past the last slot
+abbrev pub past : Row
+past = record { image = []; preimage = [] }
+
+-- what a free slot holds
+abbrev pub free : Row
+free = record { image = replicate 33 0; preimage = replicate 33 0 }
+
+module _ (p : ℕ) where
+  abbrev pub imageAt : List Row → ℕ → ℤ[x]/ p
+  imageAt rows k = poly p ((getD rows k past) .image)
+
+  abbrev pub preimageAt : List Row → ℕ → ℤ[x]/ p
+  preimageAt rows k = poly p ((getD rows k past) .preimage)
+
+pub record Rows (p i : ℕ) (rows : List Row) : Type 0 where
+  pub images : (k : ℕ) → Below (suc k) (imageAt p rows k)
+  pub preimages : (k : ℕ) → Below i (preimageAt p rows k)
+
+module _ (p : ℕ) {t : ℕ → ℤ[x]/ p} {m n o : ℕ} where
+  -- the rows are images of x^o, .., x^(i − 1)
+  pub stage-rows : {rows : List Row} {i : ℕ} → Stage t m n o (imageAt p rows) (preimageAt p rows) i → Rows p i rows
+  stage-rows S = record {
+    images = λ k. ⊎-elim (λ e. rw e (below-𝟎 (suc k))) (λ h. h .below) (S .slots k);
+    preimages = λ k. S .preimage k .below;
+  }
+
+  pub stage-free : Stage t m n o (imageAt p (replicate 33 free)) (preimageAt p (replicate 33 free)) o
+  stage-free =
+      stage-none t m n o (imageAt p (replicate 33 free)) (preimageAt p (replicate 33 free))
+      (λ k. at (λ (r : Row). r .image) refl refl k (lt-or-le k 33)) (λ k. at (λ (r : Row). r .preimage) refl refl k (lt-or-le k 33))
+    where
+      at : (f : Row → List ℕ) → f free ≡ replicate 33 0 → f past ≡ [] → (k : ℕ) → (k < 33) ⊎ (33 ≤ k)
+          → poly p (f (getD (replicate 33 free) k past)) ≡ 𝟎
+      at f h g k s =
+          ⊎-elim (λ l. ap (λ r. poly p (f r)) (getD-replicate 33 k free past l) ∙ ap (poly p) h ∙ poly-zeros p 33)
+          (λ l. ap (λ r. poly p (f r)) (List·getD-eq-default (replicate 33 free) past {n = k} l) ∙ ap (poly p) g ∙ poly-nil p) s
+
+module _ {p : ℕ} (pos : 0 < p) {r : List ℕ} (b : ℤ[x]/ p) where
+  -- p − c stands for −c
+  pub represents-less : (a : ℤ[x]/ p) (c : ℕ) → c ≤ p → Represents p r (a + constant (residue p (p - c)) · (x^ 0 · b)) → poly p r ≡ less a (residue p c) b
+  represents-less a c l h =
+      h .is
+      ∙ ap (λ e. a + e)
+      (ap₂ _·_ (constant-residue-neg p pos l) (shift-zero b) ∙ neg-mul (PolyRing (Residues p)) (constant (residue p c)) b)
+
+  pub represents-multiple : (c : ℕ) → Represents p r (poly p (replicate 33 0) + constant (residue p c) · (x^ 0 · b))
+      → poly p r ≡ constant (residue p c) · b
+  represents-multiple c h =
+      h .is ∙ ap₂ (λ z e. z + constant (residue p c) · e) (zeros p pos .is) (shift-zero b)
+      ∙ (PolyRing (Residues p)) .+-zero (constant (residue p c) · b)

@@ -1,0 +1,56 @@
+-- What `store` does: `Stored p rows v k r`, r is rows with a multiple of v, monic of degree k, in slot k.
+-- Proves it of the code's row, and that the stage of a search goes on with it. Assumes nothing.
+use mathlib.Core.Path.{_≡_, _∙_, ap}
+use mathlib.Core.List.{List}
+use mathlib.Core.Logic.{_≢_}
+use Prim.Native.Nat.{ℕ, suc, _<_, _≤_, _*_ as _*ℕ_, _%_}
+use lib.ListN.{length, getD, set, replicate, length-set}
+use lib.Seq.{getD-set-same, getD-set-other}
+use Rattle.algebra.specs.Residues.{ℤ/, residue, Residues}
+use Rattle.algebra.specs.Polynomials.{_+_, _·_, constant}
+use Rattle.algebra.specs.Degree.{Below}
+use Rattle.algebra.specs.Fields.{Prime, prime-pos, residue-field}
+use Rattle.algebra.specs.CoefficientLists.{ℤ[x]/, poly, coef-poly}
+use Rattle.frobenius.specs.Reduction.{Stage, Reducing}
+use Rattle.frobenius.specs.LeastDependency.{stage-more}
+use Rattle.algebra.specs.Monomials.{x^}
+use Rattle.modular.specs.Coefficients.{Represents}
+use Rattle.dependency.specs.declared.Row.{Row}
+use Rattle.dependency.specs.Inverse.{residue-inverse}
+use Rattle.dependency.specs.Rows.{past, imageAt, preimageAt, represents-multiple}
+
+pub record Stored (p : ℕ) (rows : List Row) (v : Row) (k : ℕ) (r : List Row) : Type 0 where
+  pub scale : ℤ/ p
+  pub unit : (Residues p) .mul scale (poly p (v .image) .coef k) ≡ (Residues p) .𝟙
+  pub len : length r ≡ length rows
+  pub image : imageAt p r k ≡ constant scale · poly p (v .image)
+  pub preimage : preimageAt p r k ≡ constant scale · poly p (v .preimage)
+  pub other : (j : ℕ) → j ≢ k → getD r j past ≡ getD rows j past
+
+module _ {p : ℕ} (P : Prime p) {rows : List Row} {v : Row} {k : ℕ} where
+  -- c is the inverse of the leading coefficient
+  pub row-stored : (c : ℕ) {u w : List ℕ} → k < length rows → getD (v .image) k 0 *ℕ c % p ≡ 1
+      → Represents p u (poly p (replicate 33 0) + constant (residue p c) · (x^ 0 · poly p (v .image)))
+      → Represents p w (poly p (replicate 33 0) + constant (residue p c) · (x^ 0 · poly p (v .preimage)))
+      → Stored p rows v k (set rows k (record { image = u; preimage = w }))
+  row-stored c {u} {w} l e hu hw = record {
+    scale = residue p c;
+    unit = ap ((Residues p) .mul (residue p c)) (coef-poly p (v .image) k) ∙ residue-inverse P (getD (v .image) k 0) c e;
+    len = length-set rows k row;
+    image = ap (λ (r : Row). poly p (r .image)) here ∙ represents-multiple (prime-pos P) (poly p (v .image)) c hu;
+    preimage = ap (λ (r : Row). poly p (r .preimage)) here ∙ represents-multiple (prime-pos P) (poly p (v .preimage)) c hw;
+    other = λ j ne. getD-set-other rows k j row past ne;
+  }
+    where
+      row : Row
+      row = record { image = u; preimage = w }
+
+      here : getD (set rows k row) k past ≡ row
+      here = getD-set-same rows k row past l
+
+  pub stage-stored : {t : ℕ → ℤ[x]/ p} {m n o i : ℕ} {r : List Row} → o ≤ i → i < m → k < n → Below (suc k) (poly p (v .image))
+      → Stage t m n o (imageAt p rows) (preimageAt p rows) i → Reducing t m n o (imageAt p rows) i 0 (poly p (v .image)) (poly p (v .preimage))
+      → Stored p rows v k r → Stage t m n o (imageAt p r) (preimageAt p r) (suc i)
+  stage-stored {t} {m} {n} {o} first last fits small S D h =
+      stage-more t m n o S D (residue-field p P) first last k fits (h .scale) (h .unit) small (h .image) (h .preimage)
+      (λ j ne. ap (λ (r : Row). poly p (r .image)) (h .other j ne)) (λ j ne. ap (λ (r : Row). poly p (r .preimage)) (h .other j ne))

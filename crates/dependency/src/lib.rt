@@ -1,0 +1,154 @@
+// The least dependency of a linear map modulo a prime p, given by the images of the x^i: the monic polynomial of least degree that goes to 0.
+// The images are brought into echelon form, each beside a polynomial that goes to it. All is public for the crates above, and no entry point.
+use modular::add_multiple;
+use modular::add_product;
+use modular::size;
+ghost use mathlib.Core.Path.{_≡_};
+ghost use Prim.Native.Nat.{_<_, _≤_, _%_, _*_ as _*ℕ_, _+_ as _+ℕ_};
+ghost use lib.ListN.{getD, replicate};
+ghost use Rattle.algebra.specs.Fields.{Prime};
+ghost use Rattle.algebra.specs.Degree.{Below};
+ghost use Rattle.algebra.specs.CoefficientLists.{poly, Reduced};
+ghost use Rattle.dependency.specs.Monomials.{IsMonomial};
+ghost use Rattle.dependency.specs.Rows.{free, Rows};
+ghost use Rattle.dependency.specs.Reduction.{ReducedFrom};
+ghost use Rattle.dependency.specs.Storing.{Stored};
+ghost use Rattle.dependency.specs.Dependency.{Images, DependencyFound};
+
+// The image of one x^i.
+pub struct Image {
+    pub coefs: [u16; 33],
+}
+
+// An image, and a polynomial that goes to it.
+pub struct Row {
+    pub image: [u16; 33],
+    pub preimage: [u16; 33],
+}
+
+// A dependency v of the degree given, where there is one.
+pub struct Found {
+    pub found: bool,
+    pub degree: usize,
+    pub v: [u16; 33],
+}
+
+// The inverse of c modulo p, by trial.
+pub fn inverse(c: u16, p: u16) -> u16
+    requires { ⌜ Prime p × (0 < c) × (c < p) ⌝ }
+    ensures { λ r. ⌜ (r < p) × (c *ℕ r % p ≡ 1) ⌝ }
+{
+    let mut y: u16 = 1;
+    while y < p {
+        if add_product(0, c, y, p) == 1 {
+            return y;
+        }
+        y += 1;
+    }
+    0
+}
+
+// x^i, modulo any number.
+pub fn monomial(i: usize) -> [u16; 33]
+    requires { ⌜ i < 33 ⌝ }
+    ensures { λ r. ⌜ IsMonomial i r ⌝ }
+{
+    let mut r = [0u16; 33];
+    r[i] = 1;
+    r
+}
+
+// Free slots only.
+pub fn no_rows() -> [Row; 33]
+    ensures { λ r. ⌜ r ≡ replicate 33 free ⌝ }
+{
+    let zero = [0u16; 33];
+    let row = Row {
+        image: zero,
+        preimage: zero,
+    };
+    [row; 33]
+}
+
+// v reduced by the rows, from the slot d - 1 down: what is taken off the image is taken off the preimage, and x^i stays its leading term.
+pub fn reduce_by_rows(rows: [Row; 33], v: Row, i: usize, d: usize, p: u16) -> Row
+    requires { ⌜ (i ≤ 33) × (d ≤ 33) × Rows p i rows × Reduced p 33 (v .image) × Reduced p 33 (v .preimage) × Below d (poly p (v .image)) ⌝ }
+    ensures { λ r. ⌜ ReducedFrom p d i rows v 0 r ⌝ }
+{
+    let mut image = v.image;
+    let mut preimage = v.preimage;
+    let mut k = d;
+    while 0 < k {
+        let row = rows[k - 1];
+        let a = row.image;
+        let b = row.preimage;
+        let c = p - image[k - 1];
+        let u = add_multiple(image, c, a, 0, k, p);
+        let w = add_multiple(preimage, c, b, 0, i, p);
+        image = u;
+        preimage = w;
+        k -= 1;
+    }
+    Row {
+        image: image,
+        preimage: preimage,
+    }
+}
+
+// The rows with v, an image of degree k, made monic and put into slot k. The preimage is of degree i.
+pub fn store(rows: [Row; 33], v: Row, k: usize, i: usize, p: u16) -> [Row; 33]
+    requires { ⌜ Prime p × (k < 33) × (i < 33) × Reduced p 33 (v .image) × (0 < getD (v .image) k 0)
+        × Below (k +ℕ 1) (poly p (v .image)) × Below (i +ℕ 1) (poly p (v .preimage)) ⌝ }
+    ensures { λ r. ⌜ Stored p rows v k r ⌝ }
+{
+    let zero = [0u16; 33];
+    let a = v.image;
+    let b = v.preimage;
+    let c = inverse(a[k], p);
+    let u = add_multiple(zero, c, a, 0, k + 1, p);
+    let w = add_multiple(zero, c, b, 0, i + 1, p);
+    let row = Row {
+        image: u,
+        preimage: w,
+    };
+    let mut r = rows;
+    r[k] = row;
+    r
+}
+
+// The least dependency among the polynomials with terms of degree first to d - 1.
+pub fn least_dependency(images: [Image; 33], first: usize, d: usize, p: u16) -> Found
+    requires { ⌜ Prime p × (first ≤ d) × (d ≤ 33) × Images p d images ⌝ }
+    ensures { λ r. ⌜ DependencyFound p images first d r ⌝ }
+{
+    let mut rows = no_rows();
+    let mut i = first;
+    while i < d {
+        let image = images[i];
+        let t = image.coefs;
+        let x = monomial(i);
+        let start = Row {
+            image: t,
+            preimage: x,
+        };
+        let v = reduce_by_rows(rows, start, i, d, p);
+        let u = v.image;
+        let w = v.preimage;
+        let s = size(u);
+        if s == 0 {
+            return Found {
+                found: true,
+                degree: i,
+                v: w,
+            };
+        }
+        let more = store(rows, v, s - 1, i, p);
+        rows = more;
+        i += 1;
+    }
+    Found {
+        found: false,
+        degree: d,
+        v: [0u16; 33],
+    }
+}

@@ -1,0 +1,31 @@
+-- `lifting::lift_by` meets its contract.
+-- Assumes nothing.
+use native.Mathlib.Nat.{mul-le-mul}
+use native.Mathlib.Omega.{arith}
+use borrow.Author.Needs.{needs}
+use Rattle.lifting.specs.Defect.{digits-reduced, digits-below}
+use Rattle.lifting.specs.Lifted.{lifted-is}
+use Rattle.lifting.proofs.lift_by.Statement.{statement}
+use Rattle.lifting.proofs.lift_by.Tie as tie
+
+pub lift-by-spec : {M : Type 1} → statement M
+lift-by-spec =
+    tie.close
+    (tie.spec
+    (λ c κs. search needs)  -- defect-requires
+    (λ c κs. search needs)  -- correction-requires
+    (λ c.
+    let p = c .before .before .before .before .args .p in
+    omega (arith, mul-le-mul {n₁ = p} {m₁ = p} {n₂ = 255} {m₂ = 255} (omega arith) (omega arith)))  -- mul-n
+    (λ c κs.
+    let F = c .before .before .before .before .pre .1 in
+    let C = c .before .before .correction .ensures in
+    (digits-reduced (F .prime .large) (F .first), digits-below (F .prime .large) (C .first) (C .small-first), omega (arith, F .fits)))  -- add-multiple-requires
+    (λ c κs.
+    let F = c .before .before .before .before .before .pre .1 in
+    let C = c .before .before .before .correction .ensures in
+    (digits-reduced (F .prime .large) (F .second), digits-below (F .prime .large) (C .second) (C .small-second), omega (arith, F .fits)))  -- add-multiple-requires-2
+    (λ c.
+    let d = c .before .before .before .before in
+    let F = d .before .before .pre .1 in
+    lifted-is (F .prime .large) F (d .before .defect .ensures) (d .correction .ensures) (c .before .add-multiple .ensures) (c .add-multiple2 .ensures)))  -- returns

@@ -1,0 +1,58 @@
+-- Coprime factors a and b modulo p: `CoprimePair`.
+-- Proves that the cofactor of the gcd of a modulo b, and b, is the inverse of a modulo b. Assumes nothing.
+use mathlib.Core.Path.{_≡_, refl}
+use mathlib.Core.Bool.{true}
+use mathlib.Core.List.{List}
+use Prim.Native.Nat.{ℕ, _<_}
+use native.Mathlib.Omega.{arith}
+use Rattle.specification.specs.Limits.{taken}
+use Rattle.algebra.specs.Ring.{CommRing}
+use Rattle.algebra.specs.Divisibility.{_∣_, Coprime, divides-trans, divides-add, divides-mul}
+use Rattle.algebra.specs.Residues.{Residues}
+use Rattle.algebra.specs.Polynomials.{PolyRing, 𝟏}
+use Rattle.algebra.specs.Congruence.{Congruent, congruent-equal, congruent-sym, congruent-trans, congruent-mul, divides-congruent}
+use Rattle.algebra.specs.Degree.{Monic, monic-one, monic-zero}
+use Rattle.algebra.specs.Fields.{residue-nontrivial}
+use Rattle.algebra.specs.CoefficientLists.{ℤ[x]/, poly, Reduced}
+use Rattle.factorisation.specs.MonicDivisors.{divisor-degree}
+use Rattle.quotients.specs.Remainder.{Remainder}
+use Rattle.euclid.specs.Inverse.{is-prime}
+use Rattle.euclid.specs.CommonDivisors.{GcdOf}
+use Rattle.lifting.specs.Correction.{Inverse}
+
+pub record CoprimePair (p : ℕ) (a : List ℕ) (i : ℕ) (b : List ℕ) (j : ℕ) : Type 0 where
+  pub prime : taken p ≡ true
+  pub positive : 0 < j
+  pub fits-first : i < 33
+  pub fits-second : j < 33
+  pub first : Reduced p 33 a
+  pub monic-first : Monic i (poly p a)
+  pub second : Reduced p 33 b
+  pub monic-second : Monic j (poly p b)
+  pub coprime : Coprime (PolyRing (Residues p)) (poly p a) (poly p b)
+
+module _ {p : ℕ} {a b : List ℕ} {i j : ℕ} (C : CoprimePair p a i b j) {r g u : List ℕ} {e : ℕ} (hr : Remainder p b j r (poly p a)) (hg : GcdOf p r b j g e u) where
+  abbrev 𝓑 : CommRing (ℤ[x]/ p)
+  𝓑 = PolyRing (Residues p)
+
+  -- g divides b and r, so it divides a
+  divides-modulo : Congruent 𝓑 (poly p b) (poly p r) (poly p a) → _∣_ 𝓑 (poly p g) (poly p a)
+  divides-modulo h = divides-congruent 𝓑 (divides-trans 𝓑 (hg .right) (congruent-sym 𝓑 h)) (hg .left)
+
+  -- what divides a and b divides 1
+  divides-one : _∣_ 𝓑 (poly p g) 𝟏
+  divides-one =
+      let dividesA : _∣_ 𝓑 (poly p g) (poly p a) = divides-modulo (hr .congruent) in
+      rw (← C .coprime .law) (divides-add 𝓑 (divides-mul 𝓑 (C .coprime .u) dividesA) (divides-mul 𝓑 (C .coprime .v) (hg .right)))
+
+  one : poly p g ≡ 𝟏
+  one =
+      let low = divisor-degree (residue-nontrivial (is-prime (C .prime) .large)) (hg .monic) monic-one divides-one in
+      monic-zero (rw (let z : e ≡ 0 = omega arith in z) at (hg .monic))
+
+  pub inverse-is : Inverse p a b j u
+  inverse-is = record {
+    small = hg .small;
+    inverts = congruent-trans 𝓑 (congruent-mul 𝓑 (congruent-equal 𝓑 refl) (congruent-sym 𝓑 (hr .congruent)))
+        (congruent-trans 𝓑 (hg .combination) (congruent-equal 𝓑 one));
+  }

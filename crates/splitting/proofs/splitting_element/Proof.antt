@@ -1,0 +1,19 @@
+-- `splitting::splitting_element` meets its contract.
+-- Assumes nothing.
+use borrow.Author.Needs.{needs}
+use Rattle.splitting.specs.Images.{images-given}
+use Rattle.splitting.specs.Elements.{element-found}
+use Rattle.splitting.proofs.splitting_element.Statement.{statement}
+use Rattle.splitting.proofs.splitting_element.Tie as tie
+
+pub splitting-element-spec : {M : Type 1} → statement M
+splitting-element-spec =
+    tie.close
+    (tie.spec
+    (λ c κs. search needs)  -- power-of-x-requires
+    (λ c. search needs)  -- sub-c
+    (λ c κs. search needs)  -- images-requires
+    (λ c κs. (c .before .before .pre .0, c .before .before .pre .1, search needs, images-given (c .images .ensures)))  -- least-dependency-requires
+    (λ c.
+    let pre = c .before .before .before .pre in
+    element-found (pre .0) (pre .3) (c .before .before .power-of-x .ensures) (c .before .images .ensures) (c .least-dependency .ensures)))  -- returns

@@ -1,0 +1,4 @@
+pub mod Images
+pub mod Elements
+pub mod LargePowers
+pub mod Bases
