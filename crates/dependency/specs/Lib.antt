@@ -1,4 +1,3 @@
-pub mod Inverse
 pub mod Monomials
 pub mod Rows
 pub mod Reduction

@@ -16,7 +16,7 @@ use Rattle.frobenius.specs.LeastDependency.{stage-more}
 use Rattle.algebra.specs.Monomials.{x^}
 use Rattle.modular.specs.Coefficients.{Represents}
 use Rattle.dependency.specs.declared.Row.{Row}
-use Rattle.dependency.specs.Inverse.{residue-inverse}
+use Rattle.modular.specs.Inverse.{residue-inverse}
 use Rattle.dependency.specs.Rows.{past, imageAt, preimageAt, represents-multiple}
 
 pub record Stored (p : ℕ) (rows : List Row) (v : Row) (k : ℕ) (r : List Row) : Type 0 where

@@ -1,10 +1,10 @@
 // The least dependency of a linear map modulo a prime p, given by the images of the x^i: the monic polynomial of least degree that goes to 0.
 // The images are brought into echelon form, each beside a polynomial that goes to it. All is public for the crates above, and no entry point.
 use modular::add_multiple;
-use modular::add_product;
+use modular::inverse;
 use modular::size;
 ghost use mathlib.Core.Path.{_≡_};
-ghost use Prim.Native.Nat.{_<_, _≤_, _%_, _*_ as _*ℕ_, _+_ as _+ℕ_};
+ghost use Prim.Native.Nat.{_<_, _≤_, _+_ as _+ℕ_};
 ghost use lib.ListN.{getD, replicate};
 ghost use Rattle.algebra.specs.Fields.{Prime};
 ghost use Rattle.algebra.specs.Degree.{Below};
@@ -31,21 +31,6 @@ pub struct Found {
     pub found: bool,
     pub degree: usize,
     pub v: [u16; 33],
-}
-
-// The inverse of c modulo p, by trial.
-pub fn inverse(c: u16, p: u16) -> u16
-    requires { ⌜ Prime p × (0 < c) × (c < p) ⌝ }
-    ensures { λ r. ⌜ (r < p) × (c *ℕ r % p ≡ 1) ⌝ }
-{
-    let mut y: u16 = 1;
-    while y < p {
-        if add_product(0, c, y, p) == 1 {
-            return y;
-        }
-        y += 1;
-    }
-    0
 }
 
 // x^i, modulo any number.

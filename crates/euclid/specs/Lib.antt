@@ -1,4 +1,4 @@
-pub mod Inverse
+pub mod TakenPrimes
 pub mod MonicMultiples
 pub mod Rows
 pub mod DividedRow

@@ -1,8 +1,8 @@
-// Euclid's algorithm on polynomials over ℤ/p, for a taken prime p, on arrays of 33 coefficients: the inverse of a constant, the
-// monic multiple, and the monic gcd with one cofactor. All is public for the crates above, and no entry point of the library.
+// Euclid's algorithm on polynomials over ℤ/p, for a taken prime p, on arrays of 33 coefficients: the monic
+// multiple, and the monic gcd with one cofactor. All is public for the crates above, and no entry point of the library.
 ghost use mathlib.Core.Path.{_≡_};
 ghost use mathlib.Core.Bool.{true};
-ghost use Prim.Native.Nat.{_<_, _≤_, _%_, _*_};
+ghost use Prim.Native.Nat.{_<_, _≤_};
 ghost use Rattle.specification.specs.Limits.{taken};
 ghost use Rattle.algebra.specs.Residues.{residue};
 ghost use Rattle.algebra.specs.Polynomials.{_·_, constant};
@@ -42,15 +42,6 @@ pub struct CommonDivisor {
     pub cofactor: [u16; 33],
 }
 
-// The inverse of c modulo p.
-pub fn inverse(c: u16, p: u16) -> u16
-    requires { ⌜ (taken p ≡ true) × (0 < c) × (c < p) ⌝ }
-    ensures { λ r. ⌜ (r < p) × (r * c % p ≡ 1) ⌝ }
-{
-    let r = inverses::inverse(p as u8, c);
-    modular::reduce(p, r as u64)
-}
-
 // c·a, where a has s terms.
 fn multiple(c: u16, a: [u16; 33], s: usize, p: u16) -> [u16; 33]
     requires { ⌜ (0 < p) × (s ≤ 33) × Below s (poly p a) ⌝ }
@@ -65,7 +56,7 @@ pub fn monic_multiple(a: [u16; 33], s: usize, p: u16) -> MonicMultiple
     requires { ⌜ (taken p ≡ true) × Reduced p 33 a × Size a s × (0 < s) ⌝ }
     ensures { λ r. ⌜ MonicMultipleOf p a s (r .array) (r .unit) ⌝ }
 {
-    let unit = inverse(a[s - 1], p);
+    let unit = modular::inverse(a[s - 1], p);
     let array = multiple(unit, a, s, p);
     MonicMultiple {
         array: array,

@@ -4,3 +4,4 @@ pub mod Sum
 pub mod Product
 pub mod Division
 pub mod Over
+pub mod Inverse

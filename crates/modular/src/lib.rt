@@ -8,6 +8,7 @@ ghost use Rattle.specification.specs.Lists.{all};
 ghost use Rattle.algebra.specs.Residues.{residue};
 ghost use Rattle.algebra.specs.Polynomials.{_+_, _·_, -_, constant};
 ghost use Rattle.algebra.specs.Degree.{Below, Monic};
+ghost use Rattle.algebra.specs.Fields.{Prime};
 ghost use Rattle.algebra.specs.CoefficientLists.{poly, Reduced};
 ghost use Rattle.algebra.specs.Monomials.{x^};
 ghost use Rattle.modular.specs.Coefficients.{Represents, Size};
@@ -32,6 +33,21 @@ pub fn add_product(y: u16, c: u16, z: u16, n: u16) -> u16
     ensures { λ r. ⌜ r ≡ (y +ℕ c *ℕ z) % n ⌝ }
 {
     reduce(n, y as u64 + c as u64 * z as u64)
+}
+
+// The inverse of c modulo p, by trial.
+pub fn inverse(c: u16, p: u16) -> u16
+    requires { ⌜ Prime p × (0 < c) × (c < p) ⌝ }
+    ensures { λ r. ⌜ (r < p) × (c *ℕ r % p ≡ 1) ⌝ }
+{
+    let mut y: u16 = 1;
+    while y < p {
+        if add_product(0, c, y, p) == 1 {
+            return y;
+        }
+        y += 1;
+    }
+    0
 }
 
 // a + c·x^k·b, where b has m terms.

@@ -1,7 +1,7 @@
 -- `euclid::gcd` meets its contract. The loop keeps two successive remainders of a and b, which are the first two.
 -- Assumes nothing.
 use borrow.Author.Needs.{needs}
-use Rattle.euclid.specs.Inverse.{is-prime}
+use Rattle.euclid.specs.TakenPrimes.{is-prime}
 use Rattle.euclid.specs.Rows.{Formed, Combined, formed-first, combined-first}
 use Rattle.euclid.specs.CommonDivisors.{gcd-former}
 use Rattle.euclid.proofs.gcd.Statement.{statement}

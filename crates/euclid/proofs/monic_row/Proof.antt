@@ -1,7 +1,7 @@
 -- `euclid::monic_row` meets its contract.
 -- Assumes nothing.
 use borrow.Author.Needs.{needs}
-use Rattle.euclid.specs.Inverse.{is-positive}
+use Rattle.euclid.specs.TakenPrimes.{is-positive}
 use Rattle.euclid.specs.Rows.{monic-row}
 use Rattle.euclid.proofs.monic_row.Statement.{statement}
 use Rattle.euclid.proofs.monic_row.Tie as tie

@@ -1,4 +1,4 @@
--- `dependency::inverse` meets its contract. The loop has seen that no number below y is an inverse.
+-- `modular::inverse` meets its contract. The loop has seen that no number below y is an inverse.
 -- Assumes nothing.
 use mathlib.Core.Path.{_≡_, sym, _∙_}
 use Prim.Native.Nat.{ℕ, _<_, _-_, _*_, _%_}
@@ -6,9 +6,9 @@ use native.Mathlib.Nat.{zero-add}
 use native.Mathlib.Omega.{arith}
 use borrow.Author.Count.{below-more}
 use borrow.Author.Needs.{needs}
-use Rattle.dependency.specs.Inverse.{inverse-below, inverse-none}
-use Rattle.dependency.proofs.inverse.Statement.{statement}
-use Rattle.dependency.proofs.inverse.Tie as tie
+use Rattle.modular.specs.Inverse.{inverse-below, inverse-none}
+use Rattle.modular.proofs.inverse.Statement.{statement}
+use Rattle.modular.proofs.inverse.Tie as tie
 
 abbrev Inv-loop : tie.InvT-loop
 Inv-loop c p y₀ y = (k : ℕ) → k < y → c * k % p ≡ 1 → ⊥
