@@ -1,0 +1,16 @@
+-- `verdicts::lifted` meets its contract.
+-- Assumes nothing.
+use native.Mathlib.Omega.{arith}
+use borrow.Author.Needs.{needs}
+use Rattle.verdicts.specs.Given.{is-prime, square-small}
+use Rattle.verdicts.specs.Lifts.{lift-represented}
+use Rattle.verdicts.proofs.lifted.Statement.{statement}
+use Rattle.verdicts.proofs.lifted.Tie as tie
+
+pub lifted-spec : {M : Type 1} → statement M
+lifted-spec =
+    tie.close
+    (tie.spec
+    (λ c. omega (arith, square-small _ (c .pre .0)))  -- mul-add-multiple
+    (λ c κs. search needs)  -- add-multiple-requires
+    (λ c. lift-represented _ (is-prime _ (c .before .pre .0) .large) _ _ (c .add-multiple .ensures)))  -- returns

@@ -1,0 +1,58 @@
+-- Arrays of 33 coefficients and the specification's lists of one polynomial: the list is the array's beginning.
+-- Proves that reduced lists of one polynomial have the same entries, that an array with no term from k on is 0 there, and what its first k
+-- entries are. Assumes nothing.
+use mathlib.Core.Path.{_≡_, sym, _∙_, ap, subst}
+use mathlib.Core.List.{List}
+use mathlib.Core.Logic.{_≢_}
+use Prim.Native.Nat.{ℕ, _≤_, _-_, _*_, zero-le}
+use native.Mathlib.Nat.{mod-eq-of-lt, zero-mod, pos-of-ne-zero, mul-le-mul-left}
+use native.Mathlib.Omega.{arith}
+use lib.ListN.{length, getD, take}
+use lib.Seq.{getD-take, length-take-le, ext-getD}
+use Rattle.algebra.specs.Residues.{residue, residue-zero, same-remainder}
+use Rattle.algebra.specs.Polynomials.{𝟎, poly-ext}
+use Rattle.algebra.specs.Degree.{Below, below-zero, below-𝟎}
+use Rattle.algebra.specs.CoefficientLists.{poly, Reduced, coef-poly}
+use Rattle.modular.specs.Coefficients.{Size, below-size}
+
+module _ {n : ℕ} where
+  -- the numbers are those of the polynomial's coefficients
+  pub same-entries : {k l : ℕ} {f g : List ℕ} → Reduced n k f → Reduced n l g → poly n f ≡ poly n g → (j : ℕ) → getD f j 0 ≡ getD g j 0
+  same-entries {f = f} {g} hf hg e j =
+      sym (mod-eq-of-lt (hf .low j))
+      ∙ same-remainder n (omega (arith, hf .low 0)) (getD f j 0) (getD g j 0) (sym (coef-poly n f j) ∙ ap (λ a. a .coef j) e ∙ coef-poly n g j)
+      ∙ mod-eq-of-lt (hg .low j)
+
+  -- the first k entries of an array that holds the polynomial of a list of k
+  pub beginning : {k l : ℕ} {a f : List ℕ} → Reduced n l a → Reduced n k f → k ≤ l → poly n a ≡ poly n f → take k a ≡ f
+  beginning {k} {l} {a} {f} ha hf room e =
+      ext-getD 0 (take k a) f (long ∙ sym (hf .len)) (λ j l. getD-take k a j 0 (omega (arith, long)) ∙ same-entries ha hf e j)
+    where
+      long : length (take k a) ≡ k
+      long = length-take-le k a (omega (arith, ha .len))
+
+  -- no term from k on: the entries there are 0
+  zero-above : {k l : ℕ} {a : List ℕ} → Reduced n l a → Below k (poly n a) → (j : ℕ) → k ≤ j → getD a j 0 ≡ 0
+  zero-above {a = a} ha h j l =
+      sym (mod-eq-of-lt (ha .low j))
+      ∙ same-remainder n (omega (arith, ha .low 0)) (getD a j 0) 0 (sym (coef-poly n a j) ∙ h .high j l ∙ sym (residue-zero n))
+      ∙ zero-mod n
+
+  -- nor is there one modulo any other number
+  pub below-modulo : (b : ℕ) {k l : ℕ} {a : List ℕ} → Reduced n l a → Below k (poly n a) → Below k (poly b a)
+  below-modulo b {a = a} ha h = record { high = λ j l. coef-poly b a j ∙ ap (residue b) (zero-above ha h j l) ∙ residue-zero b }
+
+  -- the zero polynomial has no entry but 0
+  pub size-zero : {a : List ℕ} {z : ℕ} → Size a z → z ≡ 0 → poly n a ≡ 𝟎
+  size-zero {a} s e = below-zero (subst (λ (k : ℕ). Below k (poly n a)) e (below-size n s))
+
+  pub size-nonzero : {l : ℕ} {a : List ℕ} {z : ℕ} → Reduced n l a → Size a z → z ≢ 0 → poly n a ≢ 𝟎
+  size-nonzero {z = z} ha s ne e = s .top (pos-of-ne-zero ne) (zero-above ha (rw e (below-𝟎 0)) (z - 1) zero-le)
+
+-- what is below p is below p²
+pub reduced-square : {p l : ℕ} {a : List ℕ} → Reduced p l a → Reduced (p * p) l a
+reduced-square {p} r = record { len = r .len; low = λ j. omega (arith, r .low j, mul-le-mul-left p (let l : 1 ≤ p = omega (arith, r .low j) in l)) }
+
+-- lists with the same entries are one polynomial
+pub same-poly : (n : ℕ) (f g : List ℕ) → ((j : ℕ) → getD f j 0 ≡ getD g j 0) → poly n f ≡ poly n g
+same-poly n f g e = poly-ext (λ j. coef-poly n f j ∙ ap (residue n) (e j) ∙ sym (coef-poly n g j))

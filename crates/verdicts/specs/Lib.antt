@@ -1,0 +1,13 @@
+pub mod Degrees
+pub mod Arrays
+pub mod Given
+pub mod PowerLoop
+pub mod HBar
+pub mod Cofactors
+pub mod Scaled
+pub mod Lifts
+pub mod Views
+pub mod Found
+pub mod Items
+pub mod SplitByItems
+pub mod SplitCases

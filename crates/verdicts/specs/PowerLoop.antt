@@ -1,0 +1,41 @@
+-- The loop of `power`: after i turns the array holds a^i.
+-- Proves that the loop begins so, goes on so and ends so. Assumes nothing.
+use mathlib.Core.Path.{sym, _∙_, ap, subst}
+use mathlib.Core.List.{List, _∷_}
+use Prim.Native.Nat.{ℕ, zero, suc, _≤_, _<_, _+_ as _+ℕ_, _*_ as _*ℕ_}
+use native.Mathlib.Nat.{le-antisymm}
+use native.Mathlib.Numerals.{add-one}
+use native.Mathlib.Omega.{arith}
+use lib.ListN.{getD, replicate, length-replicate}
+use Rattle.algebra.specs.Divisibility.{pow, pow-zero, pow-suc}
+use Rattle.algebra.specs.Residues.{Residues}
+use Rattle.algebra.specs.Polynomials.{PolyRing, _·_}
+use Rattle.algebra.specs.Degree.{Below, Monic, monic-pow}
+use Rattle.algebra.specs.CoefficientLists.{ℤ[x]/, poly}
+use Rattle.algebra.specs.ListShapes.{getD-zeros}
+use Rattle.modular.specs.Coefficients.{Represents, poly-unit}
+
+module _ (n : ℕ) (a : ℤ[x]/ n) where
+  pub power-none : 1 < n → Represents n (1 ∷ replicate 32 0) (pow (PolyRing (Residues n)) a 0)
+  power-none large = record {
+    reduced = record { len = ap suc (length-replicate {A = ℕ} 32 0); low = low };
+    is = poly-unit n 32 ∙ sym (pow-zero (PolyRing (Residues n)) a);
+  }
+    where
+      low : (j : ℕ) → getD (1 ∷ replicate 32 0) j 0 < n
+      low zero = large
+      low (suc j) = rw (getD-zeros 32 j) (omega arith)
+
+  pub power-more : (i : ℕ) {r v : List ℕ} → Represents n r (pow (PolyRing (Residues n)) a i) → Represents n v (poly n r · a)
+      → Represents n v (pow (PolyRing (Residues n)) a (i +ℕ 1))
+  power-more i h g = rw add-one (record {
+    reduced = g .reduced;
+    is = g .is ∙ ap (λ b. b · a) (h .is) ∙ (PolyRing (Residues n)) .*-comm (pow (PolyRing (Residues n)) a i) a ∙ sym (pow-suc (PolyRing (Residues n)) a i);
+  })
+
+  pub power-below : (d i : ℕ) {r : List ℕ} → Monic d a → Represents n r (pow (PolyRing (Residues n)) a i) → Below (i *ℕ d +ℕ 1) (poly n r)
+  power-below d i m h = rw (add-one, h .is) (monic-pow m i .below)
+
+  pub power-done : {i k : ℕ} {r : List ℕ} → Represents n r (pow (PolyRing (Residues n)) a i) → i ≤ k → k ≤ i
+      → Represents n r (pow (PolyRing (Residues n)) a k)
+  power-done {r = r} h l u = subst (λ (j : ℕ). Represents n r (pow (PolyRing (Residues n)) a j)) (le-antisymm l u) h

@@ -1,0 +1,203 @@
+-- Items 4 to 9 on arrays: what the code makes in each case.
+-- Proves that it is what is promised of a part, case by case in the document's order. Assumes nothing.
+use mathlib.Core.Path.{_≡_, refl, sym, _∙_, ap, ap₂, subst}
+use mathlib.Core.Bool.{Bool, true, false, not, _&&_}
+use mathlib.Core.List.{List, [], _∷_}
+use mathlib.Core.Logic.{_≢_}
+use Prim.Native.Nat.{ℕ, suc, _≤_, _<_, _-_, _%_, zero-le, _*_ as _*ℕ_}
+use native.Mathlib.Nat.{one-mul}
+use native.Mathlib.Omega.{arith}
+use lib.Dec.{eqb}
+use lib.ListN.{length, getD}
+use Rattle.specification.specs.Polynomials as spec
+use Rattle.specification.specs.Inverses.{inverse}
+use Rattle.specification.specs.Parts as parts
+use Rattle.algebra.specs.Numbers.{square-large}
+use Rattle.algebra.specs.Divisibility.{pow}
+use Rattle.algebra.specs.Residues.{residue, Residues}
+use Rattle.algebra.specs.Tests.{passes, fails}
+use Rattle.algebra.specs.Polynomials.{PolyRing, _·_, 𝟎, constant}
+use Rattle.algebra.specs.Degree.{Below, below-𝟎}
+use Rattle.algebra.specs.CoefficientLists.{poly, poly-scale, poly-pow}
+use Rattle.algebra.specs.ListShapes.{low-reduce, length-scale}
+use Rattle.algebra.specs.ListDivision.{poly-zeros, poly-isZero, isZero-poly}
+use Rattle.modular.specs.Coefficients.{Represents, zeros}
+use Rattle.theorems.specs.MonicLists.{MonicList, monic-poly}
+use Rattle.theorems.specs.Reductions.{digits-monic}
+use Rattle.theorems.specs.ListExtension.{lift-list-monic}
+use Rattle.theorems.specs.PartForm.{HighestPower, power-monic}
+use Rattle.verdicts.specs.Degrees.{rest-room}
+use Rattle.verdicts.specs.Arrays.{beginning, reduced-square, below-modulo}
+use Rattle.verdicts.specs.Given.{listed, Held, Given, large, degree-room, base-degree, base-poly, base-list}
+use Rattle.verdicts.specs.Scaled.{scaled-below}
+use Rattle.verdicts.specs.Lifts.{lift-by}
+use Rattle.verdicts.specs.Cofactors.{HighestIn}
+use Rattle.verdicts.specs.Found.{Found, highest-in, found}
+use Rattle.verdicts.specs.Items.{last-power, item-4, item-6, item-7, item-8, item-9}
+use Rattle.verdicts.specs.declared.Verdict.the-variants.{Basic, Solid, Power}
+use Rattle.verdicts.specs.Views.{none, oneFactor, twoFactors}
+use Rattle.verdicts.specs.SplitByItems.{FactorHeld, SplitByItems}
+
+-- the array of a monic list
+monic-held : {n e : ℕ} {f r : List ℕ} → MonicList n e f → e ≤ 32 → Represents n r (poly n f) → (listed e r ≡ f) × Held n e r
+monic-held {n} {e} m room h = (
+  beginning (h .reduced) (m .reduced) (omega arith) (h .is),
+  record { reduced = h .reduced; below = rw (h .is) (monic-poly m .below) },
+)
+
+module _ {p : ℕ} {base : List ℕ} {d m : ℕ} {part : List ℕ} (given : Given p base d m part) where
+  abbrev G : List ℕ
+  G = listed d base
+
+  abbrev Q : List ℕ
+  Q = listed (m *ℕ d) part
+
+  -- the part of a splitting
+  abbrev partWith : parts.Splitting → parts.Part
+  partWith S = record { base = G; exponent = m; splitting = S }
+
+  pos : 0 < p *ℕ p
+  pos = omega (arith, square-large p (large given))
+
+  none-held : FactorHeld (p *ℕ p) none
+  none-held = record {
+    room = zero-le;
+    held = record { reduced = zeros (p *ℕ p) pos .reduced; below = rw (poly-zeros (p *ℕ p) 33) (below-𝟎 1) };
+  }
+
+  base-held : (t : ℕ) → FactorHeld (p *ℕ p) (record { coefs = base; degree = d; times = t })
+  base-held t = record {
+    room = degree-room given;
+    held = record { reduced = reduced-square (given .base-held .reduced); below = below-modulo (p *ℕ p) (given .base-held .reduced) (given .base-held .below) };
+  }
+
+  part-held : (t : ℕ) → FactorHeld (p *ℕ p) (record { coefs = part; degree = m *ℕ d; times = t })
+  part-held t = record { room = given .room; held = given .part-held }
+
+  -- item 4: "The factor is the part itself"
+  pub split-4 : m ≡ 1 → SplitByItems p base d m part (oneFactor base d m Basic part (m *ℕ d) 1)
+  split-4 e = record { is = ap partWith (sym (item-4 p G m Q e)); base-is = refl; degree-is = refl; first = part-held 1; second = none-held }
+
+  module _ (repeated : m ≢ 1) (h : List ℕ) (is : Represents p h (poly p (parts.hBar p G m Q))) where
+    -- item 6: "h bar is zero. The factor is g, m times"
+    pub split-6 : poly p h ≡ 𝟎 → SplitByItems p base d m part (oneFactor base d m Power base d m)
+    split-6 e = record {
+      is = ap partWith (sym (item-6 p G m Q repeated zero));
+      base-is = refl;
+      degree-is = refl;
+      first = base-held m;
+      second = none-held;
+    }
+      where
+        low : (j : ℕ) → getD (parts.hBar p G m Q) j 0 < p
+        low = unfold parts.hBar in low-reduce p (omega (arith, large given)) _
+
+        zero : spec.isZero (parts.hBar p G m Q) ≡ true
+        zero = passes _ (isZero-poly p (omega (arith, large given)) (parts.hBar p G m Q) low (sym (is .is) ∙ e))
+
+    module _ (nonzero : poly p h ≢ 𝟎) {k : ℕ} {w : List ℕ} (top : HighestIn p h base k w) where
+      F : Found p base d m part k w
+      F = found given h (is .is) nonzero top
+
+      not-zero : spec.isZero (parts.hBar p G m Q) ≡ false
+      not-zero = fails _ (λ t. nonzero (is .is ∙ poly-isZero p _ t))
+
+      H : HighestPower (large given) (given .over)
+      H = highest-in given h (is .is) nonzero
+
+      pub less : k < m
+      less = omega (arith, F .exponent, H .less)
+
+      -- item 7: "The part is irreducible"
+      pub split-7 : k ≡ 0 → SplitByItems p base d m part (oneFactor base d m Solid part (m *ℕ d) 1)
+      split-7 e = record {
+        is = ap partWith (sym (item-7 p G m Q repeated not-zero (sym (F .exponent) ∙ e)));
+        base-is = refl;
+        degree-is = refl;
+        first = part-held 1;
+        second = none-held;
+      }
+
+      -- w is of lower degree than g^(m − m1)
+      pub last-below : Below ((m - k) *ℕ d) (poly p w)
+      last-below = F .below
+
+      degrees : (m - parts.m1 p G m Q) *ℕ spec.degree G ≡ (m - k) *ℕ d
+      degrees = ap₂ (λ (j e : ℕ). (m - j) *ℕ e) (sym (F .exponent)) (base-degree given)
+
+      length-w : length (parts.w p G m Q) ≡ suc ((m - k) *ℕ d)
+      length-w = H .length-w ∙ ap suc degrees
+
+      below-w : Below ((m - k) *ℕ d) (poly p (parts.w p G m Q))
+      below-w = subst (Below ((m - k) *ℕ d)) (F .is) last-below
+
+      module _ (divides : k ≢ 0) where
+        divides-m1 : parts.m1 p G m Q ≢ 0
+        divides-m1 e = divides (F .exponent ∙ e)
+
+        -- the test of item 8
+        test : (b : Bool) → (not (eqb (m % p) 0) && eqb k (m - 1)) ≡ b → (not (eqb (m % p) 0) && eqb (parts.m1 p G m Q) (m - 1)) ≡ b
+        test b = subst (λ (j : ℕ). (not (eqb (m % p) 0) && eqb j (m - 1)) ≡ b) (F .exponent)
+
+        -- item 8: "the factor is g + p·u, m times"
+        module _ (t : (not (eqb (m % p) 0) && eqb k (m - 1)) ≡ true) where
+          once : (m - k) *ℕ d ≡ d
+          once = ap (λ (j : ℕ). j *ℕ d) (let e : m - k ≡ 1 = omega (arith, last-power p m k t .1, less) in e) ∙ one-mul d
+
+          pub root-below : Below d (poly p w)
+          root-below = subst (λ (e : ℕ). Below e (poly p w)) once last-below
+
+          scaled : poly p (spec.scale p (inverse p m) w) ≡ poly p (parts.u p G m Q)
+          scaled = unfold parts.u in
+              poly-scale p (omega (arith, large given)) (inverse p m) w ∙ ap (λ a. constant (residue p (inverse p m)) · a) (F .is)
+              ∙ sym (poly-scale p (omega (arith, large given)) (inverse p m) (parts.w p G m Q))
+
+          root-list : MonicList (p *ℕ p) d (spec.lift p G (parts.u p G m Q))
+          root-list =
+              lift-list-monic p (large given) (digits-monic p (large given) (base-list given)) (parts.u p G m Q)
+              (omega (arith, long, length-w, once)) (subst (Below d) scaled (scaled-below p (inverse p m) w (large given) root-below))
+            where
+              long : length (parts.u p G m Q) ≡ length (parts.w p G m Q)
+              long = unfold parts.u in length-scale p (inverse p m) (parts.w p G m Q)
+
+          pub split-8 : {q : List ℕ} → Represents (p *ℕ p) q (poly (p *ℕ p) (spec.lift p base (spec.scale p (inverse p m) w)))
+              → SplitByItems p base d m part (oneFactor base d m Power q d m)
+          split-8 {q} r =
+              let (list, held) = monic-held root-list (degree-room given) (lift-by p (large given) _ _ _ _ (sym (base-poly given (p *ℕ p))) scaled r) in
+              record {
+                is = ap (λ f. partWith (parts.splitInto parts.power (parts.factor f m ∷ []))) list
+                    ∙ ap partWith (sym (item-8 p G m Q repeated not-zero divides-m1 (test true t)));
+                base-is = refl;
+                degree-is = refl;
+                first = record { room = degree-room given; held = held };
+                second = none-held;
+              }
+
+        -- item 9: "The factors are g, m1 times, then g^(m − m1) + p·w once"
+        module _ (t : (not (eqb (m % p) 0) && eqb k (m - 1)) ≡ false) where
+          last-list : MonicList (p *ℕ p) ((m - k) *ℕ d) (spec.lift p (spec.pow (p *ℕ p) G (m - parts.m1 p G m Q)) (parts.w p G m Q))
+          last-list =
+              lift-list-monic p (large given)
+              (subst (λ (e : ℕ). MonicList (p *ℕ p) e (spec.pow (p *ℕ p) G (m - parts.m1 p G m Q))) degrees
+              (power-monic (large given) (given .over) (m - parts.m1 p G m Q)))
+              (parts.w p G m Q) (omega (arith, length-w)) below-w
+
+          powers : poly (p *ℕ p) (spec.pow (p *ℕ p) base (m - k)) ≡ poly (p *ℕ p) (spec.pow (p *ℕ p) G (m - parts.m1 p G m Q))
+          powers =
+              poly-pow (p *ℕ p) pos base (m - k)
+              ∙ ap₂ (λ a (j : ℕ). pow (PolyRing (Residues (p *ℕ p))) a (m - j)) (sym (base-poly given (p *ℕ p))) (F .exponent)
+              ∙ sym (poly-pow (p *ℕ p) pos G (m - parts.m1 p G m Q))
+
+          pub split-9 : {q : List ℕ} → Represents (p *ℕ p) q (poly (p *ℕ p) (spec.lift p (spec.pow (p *ℕ p) base (m - k)) w))
+              → SplitByItems p base d m part (twoFactors base d m k q ((m - k) *ℕ d))
+          split-9 {q} r =
+              let room = rest-room m k d (given .room) in
+              let (list, held) = monic-held last-list room (lift-by p (large given) _ _ _ _ powers (F .is) r) in
+              record {
+                is = ap₂ (λ (j : ℕ) f. partWith (parts.splitInto (parts.split j) (parts.factor G j ∷ parts.factor f 1 ∷ []))) (F .exponent) list
+                    ∙ ap partWith (sym (item-9 p G m Q repeated not-zero divides-m1 (test false t)));
+                base-is = refl;
+                degree-is = refl;
+                first = base-held k;
+                second = record { room = room; held = held };
+              }
