@@ -10,7 +10,7 @@ use lib.ListN.{length, getD, length-map}
 use Rattle.algebra.specs.Numbers.{lt-or-le}
 use Rattle.algebra.specs.Ring.{CommRing, linear1}
 use Rattle.algebra.specs.Identities.{con, _⊕_, _⊖_, _⊗_, _≈_, solve}
-use Rattle.algebra.specs.Residues.{residue, Residues, residue-zero, residue-one, same-remainder}
+use Rattle.algebra.specs.Residues.{residue, Residues, residue-one, same-remainder}
 use Rattle.algebra.specs.Polynomials.{PolyRing, _+_, _·_, -_, 𝟏, constant}
 use Rattle.algebra.specs.Degree.{Below, Monic, monic-mul}
 use Rattle.algebra.specs.Homomorphisms.{below-map}
@@ -24,6 +24,7 @@ use Rattle.factorisation.specs.PolynomialExtension.{below-part}
 use Rattle.theorems.specs.Reductions.{coefficients, barred, bar-poly}
 use Rattle.theorems.specs.ListExtension.{extension, π-is, part-list}
 use Rattle.modular.specs.Coefficients.{Represents}
+use Rattle.modular.specs.Arrays.{below-modulo}
 
 quotient-low : (c p : ℕ) → c < p *ℕ p → c / p < p
 quotient-low c p l = ⊎-elim (λ u. u) (λ u. absurd (omega (arith, mod-add-div c p, mul-le-mul-left p u))) (lt-or-le (c / p) p)
@@ -46,23 +47,13 @@ pub record Defect (p : ℕ) (f a : List ℕ) (i : ℕ) (b : List ℕ) (j : ℕ) 
   pub law : poly (p *ℕ p) f ≡ poly (p *ℕ p) a · poly (p *ℕ p) b + constant (residue (p *ℕ p) p) · poly (p *ℕ p) h
 
 module _ {p : ℕ} (large : 1 < p) where
-  -- digits below p read modulo p²
-  pub digits-reduced : {a : List ℕ} → Reduced p 33 a → Reduced (p *ℕ p) 33 a
-  digits-reduced r = record { len = r .len; low = λ k. omega (arith, r .low k, mul-le-mul-left p (let l : 1 ≤ p = omega arith in l)) }
-
   digit : {a : List ℕ} → Reduced p 33 a → (k c : ℕ) → c < p → residue p (getD a k 0) ≡ residue p c → getD a k 0 ≡ c
   digit {a} r k c l e = sym (mod-eq-of-lt (r .low k)) ∙ same-remainder p (omega arith) (getD a k 0) c e ∙ mod-eq-of-lt l
-
-  pub digits-below : {a : List ℕ} {i : ℕ} → Reduced p 33 a → Below i (poly p a) → Below i (poly (p *ℕ p) a)
-  digits-below {a} r h = record {
-    high = λ k l. coef-poly (p *ℕ p) a k
-        ∙ ap (residue (p *ℕ p)) (digit r k 0 (omega arith) (sym (coef-poly p a k) ∙ h .high k l ∙ sym (residue-zero p))) ∙ residue-zero (p *ℕ p);
-  }
 
   pub digits-monic : {a : List ℕ} {i : ℕ} → Reduced p 33 a → Monic i (poly p a) → Monic i (poly (p *ℕ p) a)
   digits-monic {a} {i} r m = record {
     leading = coef-poly (p *ℕ p) a i ∙ ap (residue (p *ℕ p)) (digit r i 1 large (sym (coef-poly p a i) ∙ m .leading ∙ sym (residue-one p))) ∙ residue-one (p *ℕ p);
-    below = digits-below r (m .below);
+    below = below-modulo (p *ℕ p) r (m .below);
   }
 
 module _ {p : ℕ} {f a b : List ℕ} {i j : ℕ} (F : Factors p f a i b j) where

@@ -15,7 +15,8 @@ use Rattle.theorems.specs.Reductions.{barred, bar-poly}
 use Rattle.theorems.specs.ListExtension.{extension, π-is}
 use Rattle.algebra.specs.Monomials.{x^}
 use Rattle.modular.specs.Coefficients.{Represents}
-use Rattle.lifting.specs.Defect.{Factors, Defect, first-monic, second-monic, digits-below}
+use Rattle.modular.specs.Arrays.{below-modulo}
+use Rattle.lifting.specs.Defect.{Factors, Defect, first-monic, second-monic}
 use Rattle.lifting.specs.Correction.{Correction}
 
 pub record Lifted (p : ℕ) (f a : List ℕ) (i : ℕ) (b : List ℕ) (j : ℕ) (A B : List ℕ) : Type 0 where
@@ -63,10 +64,10 @@ module _ {p : ℕ} (large : 1 < p) where
     pub lifted-is : Lifted p f a i b j A B
     lifted-is = record {
       first = hA .reduced;
-      monic-first = raised-monic a s A hA (first-monic F) (digits-below large (C .first) (C .small-first));
+      monic-first = raised-monic a s A hA (first-monic F) (below-modulo (p *ℕ p) (C .first) (C .small-first));
       bar-first = raised-bar a s A hA;
       second = hB .reduced;
-      monic-second = raised-monic b t B hB (second-monic F) (digits-below large (C .second) (C .small-second));
+      monic-second = raised-monic b t B hB (second-monic F) (below-modulo (p *ℕ p) (C .second) (C .small-second));
       bar-second = raised-bar b t B hB;
       multiplies = ap₂ _·_ (raised-is a s A hA) (raised-is b t B hB)
           ∙ linear2 𝓐 𝟏 (poly (p *ℕ p) s · poly (p *ℕ p) t) same (extension p large .square)

@@ -1,4 +1,5 @@
 pub mod Coefficients
+pub mod Arrays
 pub mod AddMultiple
 pub mod Sum
 pub mod Product

@@ -17,7 +17,7 @@ use Rattle.algebra.specs.Division.{divided-unique}
 use Rattle.algebra.specs.CoefficientLists.{poly, Reduced}
 use Rattle.modular.specs.Coefficients.{Size}
 use Rattle.modular.specs.Division.{DividedBy}
-use Rattle.verdicts.specs.Arrays.{size-zero, size-nonzero}
+use Rattle.modular.specs.Arrays.{size-zero, size-nonzero}
 
 -- h = w·G^k, where w is an array
 pub record Cofactor (p : ℕ) (h g : List ℕ) (k : ℕ) (w : List ℕ) : Type 0 where

@@ -21,7 +21,7 @@ use Rattle.theorems.specs.MonicLists.{MonicList, monic-poly}
 use Rattle.theorems.specs.Reductions.{digits-monic}
 use Rattle.theorems.specs.PartForm.{PartOver, base-monic}
 use Rattle.verdicts.specs.Degrees.{base-room}
-use Rattle.verdicts.specs.Arrays.{below-modulo}
+use Rattle.modular.specs.Arrays.{below-modulo}
 
 -- the list of an array of degree d
 abbrev pub listed : ℕ → List ℕ → List ℕ

@@ -15,7 +15,7 @@ use Rattle.algebra.specs.Polynomials.{PolyRing, _+_, -_}
 use Rattle.algebra.specs.CoefficientLists.{poly, Reduced, poly-reduce, poly-sub, poly-pow}
 use Rattle.algebra.specs.ListShapes.{getD-map, low-reduce}
 use Rattle.modular.specs.Coefficients.{Represents}
-use Rattle.verdicts.specs.Arrays.{same-entries, same-poly}
+use Rattle.modular.specs.Arrays.{same-entries, same-poly}
 use Rattle.verdicts.specs.Given.{listed, Given, large, base-poly, part-poly}
 
 module _ {p : ℕ} {base : List ℕ} {d m : ℕ} {part : List ℕ} (given : Given p base d m part) where

@@ -1,5 +1,4 @@
 pub mod Degrees
-pub mod Arrays
 pub mod Given
 pub mod PowerLoop
 pub mod HBar

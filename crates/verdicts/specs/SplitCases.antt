@@ -27,7 +27,7 @@ use Rattle.theorems.specs.Reductions.{digits-monic}
 use Rattle.theorems.specs.ListExtension.{lift-list-monic}
 use Rattle.theorems.specs.PartForm.{HighestPower, power-monic}
 use Rattle.verdicts.specs.Degrees.{rest-room}
-use Rattle.verdicts.specs.Arrays.{beginning, reduced-square, below-modulo}
+use Rattle.modular.specs.Arrays.{beginning, reduced-square, below-modulo}
 use Rattle.verdicts.specs.Given.{listed, Held, Given, large, degree-room, base-degree, base-poly, base-list}
 use Rattle.verdicts.specs.Scaled.{scaled-below}
 use Rattle.verdicts.specs.Lifts.{lift-by}

@@ -3,7 +3,7 @@
 use native.Mathlib.Nat.{mul-le-mul}
 use native.Mathlib.Omega.{arith}
 use borrow.Author.Needs.{needs}
-use Rattle.lifting.specs.Defect.{digits-reduced, digits-below}
+use Rattle.modular.specs.Arrays.{reduced-square, below-modulo}
 use Rattle.lifting.specs.Lifted.{lifted-is}
 use Rattle.lifting.proofs.lift_by.Statement.{statement}
 use Rattle.lifting.proofs.lift_by.Tie as tie
@@ -20,11 +20,11 @@ lift-by-spec =
     (λ c κs.
     let F = c .before .before .before .before .pre .1 in
     let C = c .before .before .correction .ensures in
-    (digits-reduced (F .prime .large) (F .first), digits-below (F .prime .large) (C .first) (C .small-first), omega (arith, F .fits)))  -- add-multiple-requires
+    (reduced-square (F .first), below-modulo _ (C .first) (C .small-first), omega (arith, F .fits)))  -- add-multiple-requires
     (λ c κs.
     let F = c .before .before .before .before .before .pre .1 in
     let C = c .before .before .before .correction .ensures in
-    (digits-reduced (F .prime .large) (F .second), digits-below (F .prime .large) (C .second) (C .small-second), omega (arith, F .fits)))  -- add-multiple-requires-2
+    (reduced-square (F .second), below-modulo _ (C .second) (C .small-second), omega (arith, F .fits)))  -- add-multiple-requires-2
     (λ c.
     let d = c .before .before .before .before in
     let F = d .before .before .pre .1 in

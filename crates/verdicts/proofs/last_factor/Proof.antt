@@ -3,7 +3,7 @@
 use native.Mathlib.Omega.{arith}
 use borrow.Author.Needs.{needs}
 use Rattle.algebra.specs.Numbers.{square-large}
-use Rattle.verdicts.specs.Arrays.{below-modulo}
+use Rattle.modular.specs.Arrays.{below-modulo}
 use Rattle.verdicts.specs.Given.{is-prime, square-small}
 use Rattle.verdicts.specs.Lifts.{lift-power}
 use Rattle.verdicts.proofs.last_factor.Statement.{statement}

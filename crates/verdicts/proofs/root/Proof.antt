@@ -3,7 +3,7 @@
 use mathlib.Core.Path.{refl}
 use native.Mathlib.Omega.{arith}
 use borrow.Author.Needs.{needs}
-use Rattle.verdicts.specs.Arrays.{reduced-square, below-modulo}
+use Rattle.modular.specs.Arrays.{reduced-square, below-modulo}
 use Rattle.verdicts.specs.Given.{is-prime}
 use Rattle.verdicts.specs.Scaled.{scaled-below}
 use Rattle.verdicts.specs.Lifts.{lift-by}

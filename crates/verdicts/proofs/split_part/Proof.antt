@@ -1,7 +1,7 @@
 -- `verdicts::split_part` meets its contract: items 4 and 6, then the others.
 -- Assumes nothing.
 use borrow.Author.Needs.{needs}
-use Rattle.verdicts.specs.Arrays.{size-zero, size-nonzero}
+use Rattle.modular.specs.Arrays.{size-zero, size-nonzero}
 use Rattle.verdicts.specs.SplitCases.{split-4, split-6}
 use Rattle.verdicts.proofs.split_part.Statement.{statement}
 use Rattle.verdicts.proofs.split_part.Tie as tie
