@@ -126,13 +126,13 @@ pub fn over(a: [u16; 33], p: u16) -> [u16; 33]
     requires { ⌜ 0 < p ⌝ }
     ensures { λ r. ⌜ r ≡ map (λ v. v / p) a ⌝ }
 {
-    let mut r = a;
+    let mut q = a;
     let mut i: usize = 0;
     while i < 33 {
-        r[i] = a[i] / p;
+        q[i] = a[i] / p;
         i += 1;
     }
-    r
+    q
 }
 
 // One more than the degree; 0 for the zero polynomial.

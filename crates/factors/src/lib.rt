@@ -1,0 +1,51 @@
+// A monic f modulo p² cut into two factors with coprime bars, by a splitting element of its bar, if there is one.
+// All is public for the crates above, and no entry point of the library.
+ghost use Rattle.algebra.specs.CoefficientLists.{poly};
+ghost use Rattle.modular.specs.Coefficients.{Represents};
+ghost use Rattle.factors.specs.Cut.{Monics, CutOf};
+
+// f is first·second, where it is cut; the first is of the degree given.
+pub struct Cut {
+    pub cut: bool,
+    pub first: [u16; 33],
+    pub degree: usize,
+    pub second: [u16; 33],
+}
+
+// f modulo p.
+pub fn bar(f: [u16; 33], d: usize, p: u16) -> [u16; 33]
+    requires { ⌜ Monics p f d ⌝ }
+    ensures { λ r. ⌜ Represents p r (poly p f) ⌝ }
+{
+    let zero = [0u16; 33];
+    modular::sum(zero, f, p)
+}
+
+pub fn cut_in_two(f: [u16; 33], d: usize, p: u16) -> Cut
+    requires { ⌜ Monics p f d ⌝ }
+    ensures { λ r. ⌜ CutOf p f d (r .cut) (r .first) (r .degree) (r .second) ⌝ }
+{
+    let q = bar(f, d, p);
+    let e = splitting::splitting_element(q, d, p);
+    if e.found {
+        let v = e.v;
+        let h = halves::halve(q, d, v, p);
+        let a = h.first;
+        let b = h.second;
+        let c = lifting::lift(f, a, h.degree, b, d - h.degree, p);
+        let first = c.first;
+        let second = c.second;
+        return Cut {
+            cut: true,
+            first: first,
+            degree: h.degree,
+            second: second,
+        };
+    }
+    Cut {
+        cut: false,
+        first: f,
+        degree: d,
+        second: f,
+    }
+}
