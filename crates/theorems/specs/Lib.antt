@@ -17,6 +17,7 @@ pub mod Factors
 pub mod PartForm
 pub mod SplitPart
 pub mod Verdicts
+pub mod Recognised
 pub mod CoefficientBytes
 pub mod GoodSheets
 pub mod SheetsRead
