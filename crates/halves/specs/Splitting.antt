@@ -5,7 +5,6 @@ use mathlib.Core.Bool.{true}
 use mathlib.Core.List.{List, _∷_}
 use mathlib.Core.Logic.{_≢_, inl}
 use lib.ListN.{replicate}
-use lib.Dec.{T}
 use Prim.Native.Nat.{ℕ, _≤_, _<_, _-_, _+_ as _+ℕ_}
 use native.Mathlib.Nat.{pos-of-ne-zero}
 use native.Mathlib.Decide.{ℕ-discrete}
@@ -19,13 +18,14 @@ use Rattle.algebra.specs.Polynomials.{PolyRing, _+_, _·_, -_, 𝟎, 𝟏, cons
 use Rattle.algebra.specs.Monomials.{x^, shift-zero}
 use Rattle.algebra.specs.Degree.{Below, Monic, below-𝟎, below-add, below-neg, below-up, below-constant, below-zero, monic-zero, monic-one, monic-mul}
 use Rattle.algebra.specs.Division.{divided-unique}
-use Rattle.algebra.specs.Fields.{Prime, prime-pos, residue-field, residue-nontrivial, taken-prime}
+use Rattle.algebra.specs.Fields.{Prime, prime-pos, residue-field, residue-nontrivial}
 use Rattle.algebra.specs.Bezout.{MonicBezout, bezout-monic}
 use Rattle.algebra.specs.CoefficientLists.{ℤ[x]/, poly, Reduced}
 use Rattle.factorisation.specs.MonicDivisors.{divisor-degree, monic-degree, monic-nonzero}
 use Rattle.frobenius.specs.SplittingElements.{CoprimeFactors, SplittingElement, splitting-constant, splitting-factors}
 use Rattle.modular.specs.Coefficients.{Represents, poly-unit, constant-residue-neg}
 use Rattle.modular.specs.Division.{DividedBy}
+use Rattle.euclid.specs.TakenPrimes as primes
 use Rattle.euclid.specs.CommonDivisors.{GcdOf, gcd-greatest}
 
 -- Q is monic of degree d, and v is a splitting element of it
@@ -63,7 +63,7 @@ module _ {p : ℕ} {q v : List ℕ} {d : ℕ} (S : Split p q d v) where
   𝓑 = PolyRing (Residues p)
 
   pub is-prime : Prime p
-  is-prime = taken-prime p (subst T (sym (S .prime)) tt)
+  is-prime = primes.is-prime (S .prime)
 
   nontrivial : (Residues p) .𝟙 ≢ (Residues p) .𝟘
   nontrivial = residue-nontrivial (is-prime .large)
