@@ -14,13 +14,20 @@ use Rattle.specification.specs.Limits.{taken}
 use Rattle.specification.specs.Polynomials.{leading}
 use Rattle.specification.specs.Records.{PolyRecord, modulus, proper, polynomial, size, lowest, pairNumber, productNumber, divisionNumber}
 use Rattle.algebra.specs.Numbers.{lt-or-le}
-use Rattle.algebra.specs.Tests.{left, right}
+use Rattle.algebra.specs.Tests.{passes, left, right}
 use Rattle.algebra.specs.ListLaws.{all-at}
 use Rattle.algebra.specs.CoefficientLists.{Reduced}
 use Rattle.polynomial.specs.RecordLaws.{length-trim-le}
 
 not-zero : {k : ℕ} → suc k ≡ 0 → ⊥
 not-zero e = omega arith
+
+pub proper-prime : (a : PolyRecord) → proper a ≡ true → taken (a .prime) ≡ true
+unfolding proper
+proper-prime a e = passes (taken (a .prime)) (left (taken (a .prime)) counted (left (taken (a .prime) && counted) (all (λ (c : ℕ). ltb c (modulus a)) (a .coefficients)) (rw e tt)))
+  where
+    counted : Bool
+    counted = eqb (length (a .coefficients)) 33
 
 -- 33 coefficients, each below p²
 pub proper-reduced : (a : PolyRecord) → proper a ≡ true → Reduced (modulus a) 33 (a .coefficients)

@@ -212,7 +212,7 @@ pub fn mul(a: Poly, b: Poly) -> Answer
 }
 
 // The coefficient at the degree; 0 for the zero polynomial.
-fn leading(f: [u16; 33]) -> u16
+pub fn leading(f: [u16; 33]) -> u16
     ensures { λ r. ⌜ r ≡ lists.leading (records.trim f) ⌝ }
 {
     let s = modular::size(f);

@@ -22,8 +22,8 @@ use Rattle.theorems.specs.Recognised.{Found, FoundOver, splitFound}
 use Rattle.modular.specs.Coefficients.{Represents}
 use Rattle.splitting.specs.declared.Base.{Base}
 use Rattle.splitting.specs.Bases.{BaseFound}
-use Rattle.verdicts.specs.Given.{listed, Given, is-prime}
-use Rattle.verdicts.specs.SplitByItems.{SplitByItems}
+use Rattle.verdicts.specs.Given.{listed, Held, Given, is-prime}
+use Rattle.verdicts.specs.SplitByItems.{PartHeld, SplitByItems}
 use Rattle.verdicts.specs.Views.{asPart}
 use Rattle.verdicts.specs.declared.Part.{Part}
 use Rattle.pieces.specs.ArrayPieces.{MonicArray, part-in-array}
@@ -40,7 +40,7 @@ pub record PartFound (p : ℕ) (f : List ℕ) (d : ℕ) (r : Part) : Type 0 wher
   pub over : FoundOver p found
   pub part-is : found .part ≡ listed d f
   pub is : splitFound p found ≡ asPart r
-  pub fits : r .degree < 33
+  pub held : PartHeld p r
 
 module _ {p : ℕ} {f q : List ℕ} {d : ℕ} (U : UnsplitPiece p f q d) where
   pub prime : Prime p
@@ -85,11 +85,14 @@ module _ {p : ℕ} {f q : List ℕ} {d : ℕ} (U : UnsplitPiece p f q d) where
     pub part-given : Given p (g .coefs) (g .degree) (d / g .degree) f
     part-given = subst (λ m. Given p (g .coefs) (g .degree) m f) (sym exponent-is) given-power
 
+    base-held : {r : Part} → SplitByItems p (g .coefs) (g .degree) (d / g .degree) f r → Held p (r .degree) (r .base)
+    base-held {r} s = subst (λ e. Held p e (r .base)) (sym (s .degree-is)) (subst (Held p (g .degree)) (sym (s .base-is)) (part-given .base-held))
+
     pub part-found : {r : Part} → SplitByItems p (g .coefs) (g .degree) (d / g .degree) f r → PartFound p f d r
     part-found {r} s = record {
       found = record { power = record { base = listed (g .degree) (g .coefs); exponent = d / g .degree }; part = listed (d / g .degree *ℕ g .degree) f };
       over = part-given .over;
       part-is = ap (λ e. listed e f) (ap (λ m. m *ℕ g .degree) exponent-is ∙ degree-is);
       is = sym (s .is);
-      fits = omega (arith, s .degree-is, B .small, U .monic .fits);
+      held = record { room = omega (arith, s .degree-is, B .small, U .monic .fits); base = base-held s; first = s .first; second = s .second };
     }

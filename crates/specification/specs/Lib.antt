@@ -6,6 +6,7 @@ pub mod Inverses
 pub mod Records
 pub mod Powers
 pub mod Parts
+pub mod RecordParts
 pub mod Totals
 pub mod Sheets
 pub mod Answers

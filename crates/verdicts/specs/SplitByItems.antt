@@ -14,6 +14,13 @@ pub record FactorHeld (n : ℕ) (q : Factor) : Type 0 where
   pub room : q .degree ≤ 32
   pub held : Held n (q .degree) (q .coefs)
 
+-- the arrays of a part
+pub record PartHeld (p : ℕ) (r : Part) : Type 0 where
+  pub room : r .degree ≤ 32
+  pub base : Held p (r .degree) (r .base)
+  pub first : FactorHeld (p *ℕ p) (r .first)
+  pub second : FactorHeld (p *ℕ p) (r .second)
+
 -- r is the part that items 4 to 9 give
 pub record SplitByItems (p : ℕ) (base : List ℕ) (d m : ℕ) (part : List ℕ) (r : Part) : Type 0 where
   pub is : asPart r ≡ record { base = listed d base; exponent = m; splitting = parts.splitting p (listed d base) m (listed (m *ℕ d) part) }

@@ -1,17 +1,17 @@
 // All parts of a monic f modulo p², in the order of item 3: a stack of pieces, each cut in two or found to be a part.
-// All is public for the crates above, and no entry point of the library.
+// `parts_of` takes any record; the rest is public for the crates above.
 ghost use mathlib.Core.Path.{_≡_};
-ghost use mathlib.Core.List.{map};
-ghost use Rattle.specification.specs.Parts as specification;
+ghost use Rattle.specification.specs.RecordParts as specification;
+ghost use Rattle.polynomial.specs.Views.{asRecord};
 ghost use Rattle.factors.specs.Cut.{Monics};
-ghost use Rattle.verdicts.specs.Given.{listed};
-ghost use Rattle.verdicts.specs.Views.{asPart};
-ghost use Rattle.pieces.specs.Views.{held};
+ghost use Rattle.parts.specs.State.{PartsOf};
+ghost use Rattle.parts.specs.Records.{asPartsResult};
 use factors::Cut;
 use factors::bar;
 use factors::cut_in_two;
 use pieces::Parts;
 use pieces::insert;
+use polynomial::Poly;
 use primary::primary_part;
 use verdicts::Factor;
 use verdicts::Part;
@@ -21,6 +21,13 @@ use verdicts::Verdict;
 pub struct Piece {
     pub coefs: [u16; 33],
     pub degree: usize,
+}
+
+// What a record's polynomial is split into; no parts where the number is not 0.
+pub struct PartsAnswer {
+    pub number: u8,
+    pub place: usize,
+    pub parts: Parts,
 }
 
 // No parts.
@@ -51,7 +58,7 @@ pub fn no_parts() -> Parts
 // Items 1 to 9: the parts of f, which is of degree d.
 pub fn split(f: [u16; 33], d: usize, p: u16) -> Parts
     requires { ⌜ Monics p f d ⌝ }
-    ensures { λ r. ⌜ map asPart (held r) ≡ specification.partsOf p (listed d f) ⌝ }
+    ensures { λ r. ⌜ PartsOf p f d r ⌝ }
 {
     let whole = Piece {
         coefs: f,
@@ -87,4 +94,43 @@ pub fn split(f: [u16; 33], d: usize, p: u16) -> Parts
         }
     }
     parts
+}
+
+// 10: the record is not proper; 13: f is not monic; 5: its degree is 0; 0: none of these.
+fn parts_number(a: Poly) -> u8
+    ensures { λ r. ⌜ r ≡ specification.partsNumber (asRecord a) ⌝ }
+{
+    let f = a.coefs;
+    if polynomial::proper(a) {
+        if polynomial::leading(f) == 1 {
+            if modular::size(f) == 1 { 5 } else { 0 }
+        } else {
+            13
+        }
+    } else {
+        10
+    }
+}
+
+// The parts of a record's polynomial.
+pub fn parts_of(a: Poly) -> PartsAnswer
+    ensures { λ r. ⌜ asPartsResult r ≡ specification.partsResult (asRecord a) ⌝ }
+{
+    let number = parts_number(a);
+    if number == 0 {
+        let f = a.coefs;
+        let parts = split(f, modular::size(f) - 1, a.prime as u16);
+        PartsAnswer {
+            number: 0,
+            place: 0,
+            parts: parts,
+        }
+    } else {
+        let parts = no_parts();
+        PartsAnswer {
+            number: number,
+            place: 0,
+            parts: parts,
+        }
+    }
 }

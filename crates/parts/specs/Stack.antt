@@ -23,6 +23,11 @@ module _ {A : Type 0} (d : A) where
   unfolding stack
   stack-empty a k e = ap (stack a) e
 
+  pub stack-length : (a : List A) (k : ℕ) → length (stack a k) ≡ k
+  unfolding stack
+  stack-length a zero = refl
+  stack-length a (suc k) = ap suc (stack-length a k)
+
   pub stack-top : (a : List A) (k : ℕ) → 0 < k → stack a k ≡ getD a (k - 1) d ∷ stack a (k - 1)
   unfolding stack
   stack-top a k l = ap (stack a) (let s : k ≡ suc (k - 1) = omega arith in s)

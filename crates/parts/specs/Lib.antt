@@ -1,0 +1,4 @@
+pub mod Pieces
+pub mod Records
+pub mod Stack
+pub mod State

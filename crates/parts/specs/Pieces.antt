@@ -1,0 +1,106 @@
+-- The loop over the pieces: `Splitting p f pieces count parts`, the state with its stack in the first `count` of an array.
+-- Proves what each of the loop's steps asks for and leaves. Assumes nothing.
+use mathlib.Core.Path.{_≡_, sym, _∙_, subst}
+use mathlib.Core.List.{List, [], _∷_}
+use Prim.Native.Nat.{ℕ, suc, _+_, _-_, _≤_, _<_}
+use native.Mathlib.Omega.{arith}
+use lib.ListN.{length, getD, set, length-set}
+use Rattle.specification.specs.Polynomials as spec
+use Rattle.algebra.specs.CoefficientLists.{poly}
+use Rattle.factorisation.specs.Members.{All}
+use Rattle.frobenius.specs.Unsplit.{Unsplit}
+use Rattle.modular.specs.Coefficients.{Represents}
+use Rattle.factors.specs.Cut.{Monics, TwoFactors}
+use Rattle.verdicts.specs.Given.{listed}
+use Rattle.verdicts.specs.declared.Part.{Part}
+use Rattle.pieces.specs.declared.Parts.{Parts}
+use Rattle.pieces.specs.Views.{held, PartBefore}
+use Rattle.pieces.specs.Insertion.{Inserted}
+use Rattle.primary.specs.PartFound.{UnsplitPiece, PartFound}
+use Rattle.parts.specs.declared.Piece.{Piece}
+use Rattle.parts.specs.Stack.{stack, stack-empty, stack-top, stack-two, stack-length}
+use Rattle.parts.specs.State as state
+use Rattle.parts.specs.State.{State, PartsOf, work}
+
+-- what is read past an array's end
+abbrev pub noPiece : Piece
+noPiece = record { coefs = []; degree = 0 }
+
+-- f is held whole in the first of the pieces at the start
+pub record Splitting (p : ℕ) (f : spec.Poly) (pieces : List Piece) (count : ℕ) (parts : Parts) : Type 0 where
+  pub few : count ≤ 32
+  pub long : length pieces ≡ 32
+  pub state : State p f parts (stack noPiece pieces count)
+
+-- what is left to do
+abbrev pub left : List Piece → ℕ → ℕ
+left pieces count = work (stack noPiece pieces count)
+
+pub splitting-done : {p d : ℕ} {f : List ℕ} {pieces : List Piece} {count : ℕ} {parts : Parts} → Monics p f d → Splitting p (listed d f) pieces count parts
+    → count ≤ 0 → PartsOf p f d parts
+splitting-done {pieces = pieces} {count = count} m w l =
+    state.state-done _ _ _ _ m (subst (State _ _ _) (stack-empty noPiece pieces count (omega arith)) (w .state))
+
+module _ {p : ℕ} {f : spec.Poly} {pieces : List Piece} {count : ℕ} {parts : Parts} (w : Splitting p f pieces count parts) (l : 0 < count) where
+  abbrev x : Piece
+  x = getD pieces (count - 1) noPiece
+
+  abbrev rest : List Piece
+  rest = stack noPiece pieces (count - 1)
+
+  whole : stack noPiece pieces count ≡ x ∷ rest
+  whole = stack-top noPiece pieces count l
+
+  opened : State p f parts (x ∷ rest)
+  opened = subst (State p f parts) whole (w .state)
+
+  pub top : Monics p (x .coefs) (x .degree)
+  top = state.top p f parts x rest opened
+
+  -- a piece that is not cut, with its bar
+  pub whole-piece : {q : List ℕ} → Represents p q (poly p (x .coefs)) → Unsplit p (x .degree) (poly p (x .coefs)) → UnsplitPiece p (x .coefs) q (x .degree)
+  whole-piece b u = record {
+    prime = top .prime;
+    positive = top .positive;
+    monic = record { fits = top .fits; reduced = top .reduced; monic = top .monic };
+    bar = b;
+    unsplit = u;
+  }
+
+  pub part-room : parts .count < 32
+  part-room = state.part-room p f parts x rest opened
+
+  pub arrays-fit : All (λ a. a .degree < 33) (held parts)
+  arrays-fit = state.arrays-fit p f parts x rest opened
+
+  module _ {a b : List ℕ} {i : ℕ} (t : TwoFactors p (x .coefs) (x .degree) a i b) where
+    -- the array where the top piece is cut in two
+    abbrev after : List Piece
+    after = set (set pieces (count - 1) (record { coefs = b; degree = x .degree - i })) count (record { coefs = a; degree = i })
+
+    pub piece-room : count < 32
+    piece-room = omega (arith, state.piece-room p f parts x rest opened a b i t, stack-length noPiece pieces (count - 1))
+
+    two : stack noPiece after (count + 1) ≡ record { coefs = a; degree = i } ∷ record { coefs = b; degree = x .degree - i } ∷ rest
+    two = stack-two noPiece pieces (record { coefs = a; degree = i }) (record { coefs = b; degree = x .degree - i }) count l (omega (arith, w .long, piece-room))
+
+    pub splitting-cut : Splitting p f after (count + 1) parts
+    splitting-cut = record {
+      few = omega (arith, piece-room);
+      long = length-set (set pieces (count - 1) _) count _ ∙ length-set pieces (count - 1) _ ∙ w .long;
+      state = subst (State p f parts) (sym two) (state.state-cut p f parts x rest opened a b i t);
+    }
+
+    pub cut-less : left after (count + 1) < left pieces count
+    cut-less = rw (two, whole) (state.cut-works p f parts x rest opened a b i t)
+
+  pub splitting-found : {r : Parts} {part : Part} → PartFound p (x .coefs) (x .degree) part → r .count ≡ suc (parts .count)
+      → Inserted PartBefore part (held parts) (held r) → Splitting p f pieces (count - 1) r
+  splitting-found {r} {part} t e i = record {
+    few = omega (arith, w .few);
+    long = w .long;
+    state = state.state-found p f parts x rest opened r part t e i;
+  }
+
+  pub found-less : left pieces (count - 1) < left pieces count
+  found-less = rw whole (state.found-works p f parts x rest opened)

@@ -1,0 +1,150 @@
+-- The state of the splitting of f: the parts that are found, and a stack of pieces. `work` measures what is left to do.
+-- Proves how the state begins, that it goes on with less work where the top piece is cut and where it is found to be a part, and what it says at the end.
+-- Assumes nothing.
+use mathlib.Core.Path.{_≡_, refl, sym, _∙_, ap, subst}
+use mathlib.Core.List.{List, [], _∷_, map}
+use mathlib.Core.List.{List·Memᴰ·head as here}
+use Prim.Native.Nat.{ℕ, suc, _+_, _-_, _≤_, _<_, _*_ as _*ℕ_}
+use native.Mathlib.Omega.{arith}
+use lib.ListN.{length, take}
+use Rattle.specification.specs.Polynomials as spec
+use Rattle.specification.specs.Parts as specification
+use Rattle.algebra.specs.Numbers.{square-large}
+use Rattle.algebra.specs.Fields.{Prime}
+use Rattle.factorisation.specs.Members.{All, all-cons, all-tail}
+use Rattle.theorems.specs.MonicLists.{MonicList, to-claims}
+use Rattle.factors.specs.Cut.{Monics, TwoFactors}
+use Rattle.verdicts.specs.Given.{listed, is-prime}
+use Rattle.verdicts.specs.SplitByItems.{PartHeld}
+use Rattle.verdicts.specs.Views.{asPart}
+use Rattle.verdicts.specs.declared.Part.{Part}
+use Rattle.pieces.specs.declared.Parts.{Parts}
+use Rattle.pieces.specs.Views.{held, PartBefore}
+use Rattle.pieces.specs.Insertion.{Inserted, inserted-all}
+use Rattle.pieces.specs.FoundParts.{Holding, holding-start, holding-found, holding-done}
+use Rattle.pieces.specs.ArrayPieces.{MonicArray, listed-monic, holding-cut}
+use Rattle.primary.specs.PartFound.{PartFound}
+use Rattle.parts.specs.declared.Piece.{Piece}
+
+-- the list of a piece
+abbrev pub pieceList : Piece → spec.Poly
+pieceList a = listed (a .degree) (a .coefs)
+
+-- the degrees of the pieces
+unfoldable pub weight : List Piece → ℕ
+weight [] = 0
+weight (a ∷ l) = a .degree + weight l
+
+-- a cut makes one piece more of the same degrees, a part takes a piece away
+unfoldable pub work : List Piece → ℕ
+work S = 2 *ℕ weight S - length S
+
+-- r holds the parts of f, which is of degree d, in their arrays
+pub record PartsOf (p : ℕ) (f : List ℕ) (d : ℕ) (r : Parts) : Type 0 where
+  pub is : map asPart (held r) ≡ specification.partsOf p (listed d f)
+  pub few : r .count ≤ 32
+  pub arrays : All (PartHeld p) (held r)
+
+pub record State (p : ℕ) (f : spec.Poly) (parts : Parts) (S : List Piece) : Type 0 where
+  pub prime : Prime p
+  pub holding : Holding p prime f parts (map pieceList S)
+  pub monic : All (λ a. Monics p (a .coefs) (a .degree)) S
+  pub room : parts .count + weight S ≤ 32
+  pub arrays : All (PartHeld p) (held parts)
+
+array-of : {p : ℕ} {a : List ℕ} {d : ℕ} → Monics p a d → MonicArray (p *ℕ p) d a
+array-of m = record { fits = m .fits; reduced = m .reduced; monic = m .monic }
+
+given-list : {p : ℕ} {f : List ℕ} {d : ℕ} → Monics p f d → MonicList (p *ℕ p) d (listed d f)
+given-list {p} m = listed-monic (square-large p (is-prime p (m .prime) .large)) (array-of m)
+
+pub state-start : (p : ℕ) (f : List ℕ) (d : ℕ) (parts : Parts) → Monics p f d → parts .count ≡ 0
+    → State p (listed d f) parts (record { coefs = f; degree = d } ∷ [])
+unfolding weight
+state-start p f d parts m e = record {
+  prime = is-prime p (m .prime);
+  holding = holding-start p (is-prime p (m .prime)) (listed d f) parts e (to-claims (m .positive) (given-list m));
+  monic = all-cons m (λ a i. elim i [ ]);
+  room = omega (arith, e, m .fits);
+  arrays = subst (λ k. All (PartHeld p) (take k (parts .parts))) (sym e) (λ x i. elim i [ ]);
+}
+
+-- no piece is of degree 0
+pieces-weigh : (p : ℕ) (S : List Piece) → All (λ a. Monics p (a .coefs) (a .degree)) S → length S ≤ weight S
+unfolding weight
+pieces-weigh p [] h = omega arith
+pieces-weigh p (a ∷ S) h = omega (arith, h a (here refl) .positive, pieces-weigh p S (all-tail h))
+
+pub state-done : (p : ℕ) (f : List ℕ) (d : ℕ) (parts : Parts) → Monics p f d → State p (listed d f) parts [] → PartsOf p f d parts
+state-done p f d parts m w = record {
+  is = holding-done p (w .prime) (listed d f) parts (given-list m) (w .holding);
+  few = omega (arith, w .room);
+  arrays = w .arrays;
+}
+
+module _ (p : ℕ) (f : spec.Poly) (parts : Parts) (x : Piece) (S : List Piece) (w : State p f parts (x ∷ S)) where
+  pub top : Monics p (x .coefs) (x .degree)
+  top = w .monic x (here refl)
+
+  rest-weighs : length S ≤ weight S
+  rest-weighs = pieces-weigh p S (all-tail (w .monic))
+
+  -- there is room for the part that a piece may be
+  pub part-room : parts .count < 32
+  unfolding weight
+  part-room = omega (arith, w .room, top .positive)
+
+  pub arrays-fit : All (λ a. a .degree < 33) (held parts)
+  arrays-fit a i = omega (arith, w .arrays a i .room)
+
+  module _ (a b : List ℕ) (i : ℕ) (t : TwoFactors p (x .coefs) (x .degree) a i b) where
+    first : Monics p a i
+    first = record { prime = top .prime; positive = t .positive; fits = omega (arith, t .less, top .fits); reduced = t .first; monic = t .monic-first }
+
+    second : Monics p b (x .degree - i)
+    second = record {
+      prime = top .prime;
+      positive = omega (arith, t .less);
+      fits = omega (arith, top .fits);
+      reduced = t .second;
+      monic = t .monic-second;
+    }
+
+    abbrev after : List Piece
+    after = record { coefs = a; degree = i } ∷ record { coefs = b; degree = x .degree - i } ∷ S
+
+    pub state-cut : State p f parts after
+    unfolding weight
+    state-cut = record {
+      prime = w .prime;
+      holding = holding-cut p (w .prime) f parts (x .coefs) a b (x .degree) i (map pieceList S) (w .holding) (t .positive) (t .less) (array-of top)
+          (array-of first) (array-of second) (t .coprime) (t .multiplies);
+      monic = all-cons first (all-cons second (all-tail (w .monic)));
+      room = omega (arith, w .room, t .less);
+      arrays = w .arrays;
+    }
+
+    -- there is room for one piece more
+    pub piece-room : suc (length S) < 32
+    unfolding weight
+    piece-room = omega (arith, w .room, t .positive, t .less, rest-weighs)
+
+    pub cut-works : work after < work (x ∷ S)
+    unfolding work weight
+    cut-works = omega (arith, t .positive, t .less, rest-weighs)
+
+  pub state-found : (r : Parts) (part : Part) → PartFound p (x .coefs) (x .degree) part → r .count ≡ suc (parts .count)
+      → Inserted PartBefore part (held parts) (held r) → State p f r S
+  unfolding weight
+  state-found r part t e i = record {
+    prime = w .prime;
+    holding = holding-found p (w .prime) f parts r part (t .found) (map pieceList S)
+        (subst (λ g. Holding p (w .prime) f parts (g ∷ map pieceList S)) (sym (t .part-is)) (w .holding)) (t .over) (t .is) i;
+    monic = all-tail (w .monic);
+    room = omega (arith, e, w .room, top .positive);
+    arrays = inserted-all PartBefore (PartHeld p) i (t .held) (w .arrays);
+  }
+
+  pub found-works : work S < work (x ∷ S)
+  unfolding work weight
+  found-works = omega (arith, top .positive, rest-weighs)
