@@ -1,32 +1,30 @@
 -- The search of `least_dependency`: `Images p d images`, what it is given; `DependencyFound`, what it finds; `Searching`, its loop: the rows span the images of
 -- x^first, .., x^(i − 1), and these are independent.
 -- Proves that the loop begins so, goes on so, and ends with the least dependency or with none. Assumes nothing.
-use mathlib.Core.Path.{_≡_, sym, _∙_}
+use mathlib.Core.Path.{_≡_, _∙_, subst}
 use mathlib.Core.Bool.{true, false, true≢false, false≢true}
 use mathlib.Core.List.{List, []}
-use mathlib.Core.Logic.{⊎-elim}
 use Prim.Native.Nat.{ℕ, suc, _<_, _≤_, _-_, _+_ as _+ℕ_}
-use native.Mathlib.Nat.{le-refl, zero-mod, mod-eq-of-lt}
+use native.Mathlib.Nat.{le-refl}
 use native.Mathlib.Numerals.{add-one}
 use native.Mathlib.Omega.{arith}
 use lib.ListN.{length, getD, replicate, length-replicate}
-use Rattle.algebra.specs.Numbers.{lt-or-le}
-use Rattle.algebra.specs.Residues.{residue-zero, same-remainder}
 use Rattle.algebra.specs.Polynomials.{𝟎}
 use Rattle.algebra.specs.Degree.{Below, Monic, below-zero}
-use Rattle.algebra.specs.Fields.{Prime}
-use Rattle.algebra.specs.CoefficientLists.{ℤ[x]/, poly, Reduced, coef-poly}
+use Rattle.algebra.specs.Fields.{Prime, prime-pos}
+use Rattle.algebra.specs.CoefficientLists.{ℤ[x]/, poly, Reduced}
 use Rattle.frobenius.specs.LinearMaps.{apply}
 use Rattle.frobenius.specs.Reduction.{Between, Stage, Reducing, reducing-none}
 use Rattle.frobenius.specs.LeastDependency.{LeastDependency, stage-found}
 use Rattle.modular.specs.Coefficients.{Size, below-size}
+use Rattle.modular.specs.Arrays.{size-small}
 use Rattle.dependency.specs.declared.Image.{Image}
 use Rattle.dependency.specs.declared.Row.{Row}
 use Rattle.dependency.specs.declared.Found.{Found}
 use Rattle.dependency.specs.Monomials.{IsMonomial}
-use Rattle.dependency.specs.Rows.{free, imageAt, preimageAt, stage-free}
-use Rattle.dependency.specs.Reduction.{ReducedFrom}
-use Rattle.dependency.specs.Storing.{Stored, stage-stored}
+use Rattle.dependency.specs.Rows.{free, imageAt, preimageAt, ReducedRows, stage-free, free-reduced}
+use Rattle.dependency.specs.Reduction.{ReducedBy}
+use Rattle.dependency.specs.Storing.{Stored, reduced-stored, stage-stored}
 
 -- the coefficients of the image of x^k
 abbrev pub coefsOf : List Image → ℕ → List ℕ
@@ -57,34 +55,25 @@ pub record Searching (p : ℕ) (images : List Image) (first d i : ℕ) (rows : L
   pub above : first ≤ i
   pub within : i ≤ d
   pub slots : length rows ≡ 33
+  pub reduced : ReducedRows p rows
   pub stage : Stage (imageOf p images) d d first (imageAt p rows) (preimageAt p rows) i
 
-module _ {p d : ℕ} {a : List ℕ} (h : Reduced p 33 a) (small : Below d (poly p a)) where
-  entry-zero : (k : ℕ) → d ≤ k → getD a k 0 ≡ 0
-  entry-zero k l =
-      sym (mod-eq-of-lt (h .low k))
-      ∙ same-remainder p (omega (arith, h .low k)) (getD a k 0) 0 (sym (coef-poly p a k) ∙ small .high k l ∙ sym (residue-zero p))
-      ∙ zero-mod p
-
-  -- d terms, so a size of d at most
-  size-small : {s : ℕ} → Size a s → s ≤ d
-  size-small {s} z = ⊎-elim (λ l. absurd (z .top (omega arith) (entry-zero (s - 1) (omega arith)))) (λ l. l) (lt-or-le d s)
-
-pub searching-none : {p : ℕ} {images : List Image} {first d : ℕ} {rows : List Row} → first ≤ d → rows ≡ replicate 33 free
+pub searching-none : {p : ℕ} {images : List Image} {first d : ℕ} {rows : List Row} → Prime p → first ≤ d → rows ≡ replicate 33 free
     → Searching p images first d first rows
-searching-none {p} {first = first} l e = rw e (record {
+searching-none {p} {first = first} P l e = rw e (record {
   above = le-refl first;
   within = l;
   slots = length-replicate {A = Row} 33 free;
+  reduced = free-reduced (prime-pos P);
   stage = stage-free p;
 })
 
 -- the image of x^i is reduced to v
 module _ {p : ℕ} (P : Prime p) {images : List Image} {first d i : ℕ} {rows : List Row} {x : List ℕ} {v : Row} {s : ℕ} (l : i < d)
     (S : Searching p images first d i rows) (X : IsMonomial i x)
-    (R : ReducedFrom p d i rows (record { image = coefsOf images i; preimage = x }) 0 v) (Z : Size (v .image) s) where
-  reducing : Reducing (imageOf p images) d d first (imageAt p rows) i 0 (poly p (v .image)) (poly p (v .preimage))
-  reducing = R .keeps (imageOf p images) first (S .stage) (rw (X p (P .large) .is) (reducing-none (imageOf p images) d d first (S .above) l))
+    (R : ReducedBy p d i rows (record { image = coefsOf images i; preimage = x }) v) (Z : Size (v .image) s) where
+  reducing : Reducing (imageOf p images) d d first (imageAt p rows) i (R .terms) (poly p (v .image)) (poly p (v .preimage))
+  reducing = R .reduced .keeps (imageOf p images) first (S .stage) (rw (X p (P .large) .is) (reducing-none (imageOf p images) d d first (S .above) l))
 
   pub monic-preimage : Monic i (poly p (v .preimage))
   monic-preimage = reducing .monic
@@ -92,7 +81,7 @@ module _ {p : ℕ} (P : Prime p) {images : List Image} {first d i : ℕ} {rows :
   pub searching-found : s ≡ 0 → DependencyFound p images first d (record { found = true; degree = i; v = v .preimage })
   searching-found e = record {
     found = λ q. record {
-      reduced = R .preimage;
+      reduced = R .reduced .preimage;
       above = S .above;
       within = l;
       least = stage-found (imageOf p images) d d first (S .stage) reducing (below-zero (rw e at (below-size p Z)));
@@ -100,16 +89,25 @@ module _ {p : ℕ} (P : Prime p) {images : List Image} {first d i : ℕ} {rows :
     none = λ q. absurd (true≢false q);
   }
 
+  -- the terms that are left are s
+  same-size : R .terms ≡ s
+  same-size =
+      omega (arith, size-small (R .reduced .image) (below-size p Z) (R .reduced .size), size-small (R .reduced .image) (below-size p (R .reduced .size)) Z)
+
   pub searching-more : {r : List Row} → 0 < s → Stored p rows v (s - 1) r → Searching p images first d (i +ℕ 1) r
   searching-more {r} pos h = record {
     above = omega (arith, S .above);
     within = omega arith;
     slots = h .len ∙ S .slots;
-    stage = rw add-one (stage-stored P (S .above) l (omega (arith, size-small (R .image) (R .small) Z)) (rw next (below-size p Z)) (S .stage) reducing h);
+    reduced = reduced-stored P (S .reduced) h;
+    stage = rw add-one (stage-stored P (S .above) l (omega (arith, same-size, R .reduced .reach)) (omega (arith, same-size)) free (rw next (below-size p Z)) (S .stage) reducing h);
   }
     where
       next : suc (s - 1) ≡ s
       next = omega arith
+
+      free : imageAt p rows (s - 1) ≡ 𝟎
+      free = subst (λ k. imageAt p rows (k - 1) ≡ 𝟎) same-size (R .free (omega (arith, same-size)))
 
 pub searching-done : {p : ℕ} {images : List Image} {first d i : ℕ} {rows : List Row} {v : List ℕ} → d ≤ i → Searching p images first d i rows
     → DependencyFound p images first d (record { found = false; degree = d; v = v })

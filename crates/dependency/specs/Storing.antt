@@ -4,20 +4,21 @@ use mathlib.Core.Path.{_≡_, _∙_, ap}
 use mathlib.Core.List.{List}
 use mathlib.Core.Logic.{_≢_}
 use Prim.Native.Nat.{ℕ, suc, _<_, _≤_, _*_ as _*ℕ_, _%_}
+use native.Mathlib.Decide.{ℕ-discrete}
 use lib.ListN.{length, getD, set, replicate, length-set}
 use lib.Seq.{getD-set-same, getD-set-other}
 use Rattle.algebra.specs.Residues.{ℤ/, residue, Residues}
-use Rattle.algebra.specs.Polynomials.{_+_, _·_, constant}
+use Rattle.algebra.specs.Polynomials.{_+_, _·_, 𝟎, constant}
 use Rattle.algebra.specs.Degree.{Below}
 use Rattle.algebra.specs.Fields.{Prime, prime-pos, residue-field}
-use Rattle.algebra.specs.CoefficientLists.{ℤ[x]/, poly, coef-poly}
+use Rattle.algebra.specs.CoefficientLists.{ℤ[x]/, poly, Reduced, coef-poly}
 use Rattle.frobenius.specs.Reduction.{Stage, Reducing}
 use Rattle.frobenius.specs.LeastDependency.{stage-more}
 use Rattle.algebra.specs.Monomials.{x^}
 use Rattle.modular.specs.Coefficients.{Represents}
 use Rattle.dependency.specs.declared.Row.{Row}
 use Rattle.modular.specs.Inverse.{residue-inverse}
-use Rattle.dependency.specs.Rows.{past, imageAt, preimageAt, represents-multiple}
+use Rattle.dependency.specs.Rows.{past, imageAt, preimageAt, ReducedRows, represents-multiple}
 
 pub record Stored (p : ℕ) (rows : List Row) (v : Row) (k : ℕ) (r : List Row) : Type 0 where
   pub scale : ℤ/ p
@@ -25,6 +26,7 @@ pub record Stored (p : ℕ) (rows : List Row) (v : Row) (k : ℕ) (r : List Row)
   pub len : length r ≡ length rows
   pub image : imageAt p r k ≡ constant scale · poly p (v .image)
   pub preimage : preimageAt p r k ≡ constant scale · poly p (v .preimage)
+  pub reduced : Reduced p 33 ((getD r k past) .image)
   pub other : (j : ℕ) → j ≢ k → getD r j past ≡ getD rows j past
 
 module _ {p : ℕ} (P : Prime p) {rows : List Row} {v : Row} {k : ℕ} where
@@ -39,6 +41,7 @@ module _ {p : ℕ} (P : Prime p) {rows : List Row} {v : Row} {k : ℕ} where
     len = length-set rows k row;
     image = ap (λ (r : Row). poly p (r .image)) here ∙ represents-multiple (prime-pos P) (poly p (v .image)) c hu;
     preimage = ap (λ (r : Row). poly p (r .preimage)) here ∙ represents-multiple (prime-pos P) (poly p (v .preimage)) c hw;
+    reduced = rw here (hu .reduced);
     other = λ j ne. getD-set-other rows k j row past ne;
   }
     where
@@ -48,9 +51,16 @@ module _ {p : ℕ} (P : Prime p) {rows : List Row} {v : Row} {k : ℕ} where
       here : getD (set rows k row) k past ≡ row
       here = getD-set-same rows k row past l
 
-  pub stage-stored : {t : ℕ → ℤ[x]/ p} {m n o i : ℕ} {r : List Row} → o ≤ i → i < m → k < n → Below (suc k) (poly p (v .image))
-      → Stage t m n o (imageAt p rows) (preimageAt p rows) i → Reducing t m n o (imageAt p rows) i 0 (poly p (v .image)) (poly p (v .preimage))
+  pub reduced-stored : {r : List Row} → ReducedRows p rows → Stored p rows v k r → ReducedRows p r
+  reduced-stored {r} R h j l = at (ℕ-discrete j k)
+    where
+      at : Dec (j ≡ k) → Reduced p 33 ((getD r j past) .image)
+      at (yes e) = rw e (h .reduced)
+      at (no ne) = rw (h .other j ne) (R j l)
+
+  pub stage-stored : {t : ℕ → ℤ[x]/ p} {m n o i κ : ℕ} {r : List Row} → o ≤ i → i < m → k < n → κ ≤ suc k → imageAt p rows k ≡ 𝟎 → Below (suc k) (poly p (v .image))
+      → Stage t m n o (imageAt p rows) (preimageAt p rows) i → Reducing t m n o (imageAt p rows) i κ (poly p (v .image)) (poly p (v .preimage))
       → Stored p rows v k r → Stage t m n o (imageAt p r) (preimageAt p r) (suc i)
-  stage-stored {t} {m} {n} {o} first last fits small S D h =
-      stage-more t m n o S D (residue-field p P) first last k fits (h .scale) (h .unit) small (h .image) (h .preimage)
+  stage-stored {t} {m} {n} {o} first last fits level free small S D h =
+      stage-more t m n o S D (residue-field p P) first last k fits level free (h .scale) (h .unit) small (h .image) (h .preimage)
       (λ j ne. ap (λ (r : Row). poly p (r .image)) (h .other j ne)) (λ j ne. ap (λ (r : Row). poly p (r .preimage)) (h .other j ne))

@@ -11,7 +11,7 @@ ghost use Rattle.algebra.specs.Degree.{Below};
 ghost use Rattle.algebra.specs.CoefficientLists.{poly, Reduced};
 ghost use Rattle.dependency.specs.Monomials.{IsMonomial};
 ghost use Rattle.dependency.specs.Rows.{free, Rows};
-ghost use Rattle.dependency.specs.Reduction.{ReducedFrom};
+ghost use Rattle.dependency.specs.Reduction.{ReducedBy};
 ghost use Rattle.dependency.specs.Storing.{Stored};
 ghost use Rattle.dependency.specs.Dependency.{Images, DependencyFound};
 
@@ -55,24 +55,28 @@ pub fn no_rows() -> [Row; 33]
     [row; 33]
 }
 
-// v reduced by the rows, from the slot d - 1 down: what is taken off the image is taken off the preimage, and x^i stays its leading term.
+// v reduced by the rows: its leading term is taken off by the row in its slot, until there is none. What is taken off the image is taken off the
+// preimage, and x^i stays its leading term.
 pub fn reduce_by_rows(rows: [Row; 33], v: Row, i: usize, d: usize, p: u16) -> Row
-    requires { ⌜ (i ≤ 33) × (d ≤ 33) × Rows p i rows × Reduced p 33 (v .image) × Reduced p 33 (v .preimage) × Below d (poly p (v .image)) ⌝ }
-    ensures { λ r. ⌜ ReducedFrom p d i rows v 0 r ⌝ }
+    requires { ⌜ (1 < p) × (i ≤ 33) × (d ≤ 33) × Rows p i rows × Reduced p 33 (v .image) × Reduced p 33 (v .preimage) × Below d (poly p (v .image)) ⌝ }
+    ensures { λ r. ⌜ ReducedBy p d i rows v r ⌝ }
 {
     let mut image = v.image;
     let mut preimage = v.preimage;
-    let mut k = d;
+    let mut k = size(image);
     while 0 < k {
         let row = rows[k - 1];
         let a = row.image;
+        if a[k - 1] == 0 {
+            break;
+        }
         let b = row.preimage;
         let c = p - image[k - 1];
         let u = add_multiple(image, c, a, 0, k, p);
         let w = add_multiple(preimage, c, b, 0, i, p);
         image = u;
         preimage = w;
-        k -= 1;
+        k = size(u);
     }
     Row {
         image: image,

@@ -4,6 +4,7 @@
 use mathlib.Core.Path.{_≡_, sym, _∙_, ap, subst}
 use mathlib.Core.Logic.{inr, _≢_, ⊎-elim}
 use Prim.Native.Nat.{ℕ, suc, _<_, _≤_}
+use native.Mathlib.Nat.{le-refl, eq-or-lt-of-le}
 use native.Mathlib.Decide.{ℕ-discrete}
 use native.Mathlib.Omega.{arith}
 use Rattle.algebra.specs.Ring.{CommRing, ring, mul-zero, add-neg, linear1}
@@ -28,7 +29,7 @@ use Rattle.algebra.specs.Degree.{Below, Monic, below-up, below-down, below-cons
 use Rattle.algebra.specs.Division.{below-top}
 use Rattle.algebra.specs.Fields.{Field}
 use Rattle.frobenius.specs.LinearMaps.{apply, apply-multiple, apply-sub-multiple, apply-monomial}
-use Rattle.frobenius.specs.Span.{less, coef-less, Span, Slot, span-add, span-multiple, span-row, span-clear, span-insert}
+use Rattle.frobenius.specs.Span.{less, coef-less, Span, Slot, Clear, span-𝟎, span-add, span-multiple, span-row, span-clear, span-insert}
 use Rattle.frobenius.specs.Reduction.{Between, Stage, Reducing}
 
 constant-unit : {R : Type 0} (𝓡 : CommRing R) (c d : R) → 𝓡 .mul c d ≡ 𝓡 .𝟙 → constant {𝓡 = 𝓡} c · constant d ≡ 𝟏
@@ -44,13 +45,13 @@ module _ {R : Type 0} {𝓡 : CommRing R} (t : ℕ → Poly 𝓡) (m o : ℕ) wh
 
 -- m images, n slots
 module _ {R : Type 0} {𝓡 : CommRing R} (t : ℕ → Poly 𝓡) (m n o : ℕ) where
-  module _ {r s : ℕ → Poly 𝓡} {i : ℕ} {u w : Poly 𝓡} (S : Stage t m n o r s i) (D : Reducing t m n o r i 0 u w) where
+  -- the image of x^i is reduced to u, of which x^κ is no term, nor any higher power
+  module _ {r s : ℕ → Poly 𝓡} {i κ : ℕ} {u w : Poly 𝓡} (S : Stage t m n o r s i) (D : Reducing t m n o r i κ u w) where
     pub stage-found : u ≡ 𝟎 → LeastDependency t m o i w
     stage-found e = record { monic = D .monic; base = D .base; kernel = D .image ∙ e; least = S .injective }
 
     reduced : Span r n (t i + - u)
-    unfolding Span
-    reduced = D .back u (add-neg (PolyRing 𝓡) u)
+    reduced = D .back u (rw (add-neg (PolyRing 𝓡) u) (span-𝟎 r κ))
 
     module _ (field : Field 𝓡) (first : o ≤ i) (last : i < m) where
       -- the image of v, less that of its top term
@@ -66,12 +67,10 @@ module _ {R : Type 0} {𝓡 : CommRing R} (t : ℕ → Poly 𝓡) (m n o : ℕ) 
             base = λ j l. coef-less v (v .coef i) (x^ i) j ∙ rw (h .base j l, coef-power-low 𝓡 i j (omega arith)) (simp ring);
           }
 
-      -- if a v of degree i goes to 𝟎, the reduction leaves 𝟎
-      leaves-𝟎 : (v : Poly 𝓡) → Between o (suc i) v → apply t m v ≡ 𝟎 → (d : R) → 𝓡 .mul (v .coef i) d ≡ 𝓡 .𝟙 → u ≡ 𝟎
-      leaves-𝟎 v h e d unit =
-          span-clear r (S .slots) n u
-          (rw whole at (span-add r n _ _ (span-multiple r n (𝓡 .neg d) _ (rw e at (rest-spans v h))) (span-multiple r n (𝓡 .neg (𝓡 .𝟙)) _ reduced)))
-          (λ k l. D .clear k (omega arith) l)
+      -- if a v of degree i goes to 𝟎, the rows span what the reduction leaves
+      rows-span : (v : Poly 𝓡) → Between o (suc i) v → apply t m v ≡ 𝟎 → (d : R) → 𝓡 .mul (v .coef i) d ≡ 𝓡 .𝟙 → Span r n u
+      rows-span v h e d unit =
+          rw whole at (span-add r n _ _ (span-multiple r n (𝓡 .neg d) _ (rw e at (rest-spans v h))) (span-multiple r n (𝓡 .neg (𝓡 .𝟙)) _ reduced))
         where
           whole : constant (𝓡 .neg d) · less 𝟎 (v .coef i) (t i) + constant (𝓡 .neg (𝓡 .𝟙)) · (t i + - u) ≡ u
           whole =
@@ -80,22 +79,28 @@ module _ {R : Type 0} {𝓡 : CommRing R} (t : ℕ → Poly 𝓡) (m n o : ℕ) 
               (solve (PolyRing 𝓡) 4 (λ d v t u. ⊝ d ⊗ (con 0 ⊖ v ⊗ t) ⊕ ⊝ con 1 ⊗ (t ⊖ u) ⊖ u ≈ t ⊗ (v ⊗ d ⊖ con 1)) tt
               (constant d) (constant (v .coef i)) (t i) u))
 
-      injective-more : u ≢ 𝟎 → (v : Poly 𝓡) → Between o (suc i) v → apply t m v ≡ 𝟎 → v ≡ 𝟎
+      injective-more : ¬ Span r n u → (v : Poly 𝓡) → Between o (suc i) v → apply t m v ≡ 𝟎 → v ≡ 𝟎
       injective-more ne v h e = go (field .decide (v .coef i) (𝓡 .𝟘))
         where
           go : Dec (v .coef i ≡ 𝓡 .𝟘) → v ≡ 𝟎
           go (yes z) = S .injective v (record { below = below-down (h .below) z; base = h .base }) e
-          go (no z) = let (d, unit) = field .inverse (v .coef i) z in absurd (ne (leaves-𝟎 v h e d unit))
+          go (no z) = let (d, unit) = field .inverse (v .coef i) z in absurd (ne (rows-span v h e d unit))
 
-      -- u, of degree k, is made monic and put into slot k, and w with it
-      module _ {r′ s′ : ℕ → Poly 𝓡} (k : ℕ) (fits : k < n) (c : R) (unit : 𝓡 .mul c (u .coef k) ≡ 𝓡 .𝟙) (small : Below (suc k) u)
+      -- u, of degree k, is made monic and put into slot k, which is free, and w with it
+      module _ {r′ s′ : ℕ → Poly 𝓡} (k : ℕ) (fits : k < n) (level : κ ≤ suc k) (free : r k ≡ 𝟎) (c : R) (unit : 𝓡 .mul c (u .coef k) ≡ 𝓡 .𝟙) (small : Below (suc k) u)
           (row : r′ k ≡ constant c · u) (pre : s′ k ≡ constant c · w)
           (rows : (j : ℕ) → j ≢ k → r′ j ≡ r j) (pres : (j : ℕ) → j ≢ k → s′ j ≡ s j) where
         nonzero : u .coef k ≢ 𝓡 .𝟘
         nonzero e = field .one-ne-zero (sym unit ∙ ap (𝓡 .mul c) e ∙ mul-zero 𝓡 c)
 
-        free : r k ≡ 𝟎
-        free = ⊎-elim (λ e. e) (λ mk. absurd (nonzero (D .clear k (omega arith) fits mk))) (S .slots k)
+        -- no row has the degree of u
+        clear : (j : ℕ) → k ≤ j → j < n → Clear r u j
+        clear j l g m =
+            ⊎-elim (λ e. absurd (field .one-ne-zero (sym (m .leading) ∙ ap (λ a. a .coef j) (ap r (sym e) ∙ free) ∙ coef-zero 𝓡 j)))
+            (λ h. D .clear j (omega arith) g m) (eq-or-lt-of-le l)
+
+        not-spanned : ¬ Span r n u
+        not-spanned h = nonzero (span-clear r (S .slots) k n u (omega arith) h clear .high k (le-refl k))
 
         by-slot : (Q : ℕ → Type 0) → Q k → ((j : ℕ) → j ≢ k → Q j) → (j : ℕ) → Q j
         by-slot Q own other j = go (ℕ-discrete k j)
@@ -135,5 +140,5 @@ module _ {R : Type 0} {𝓡 : CommRing R} (t : ℕ → Poly 𝓡) (m n o : ℕ) 
               }))
               (λ j ne. rw (pres j ne) (record { below = below-up (omega arith) (S .preimage j .below); base = S .preimage j .base }));
           spans = spans-more;
-          injective = injective-more (λ e. nonzero (ap (λ a. a .coef k) e ∙ coef-zero 𝓡 k));
+          injective = injective-more not-spanned;
         }

@@ -13,7 +13,7 @@ use Rattle.algebra.specs.Polynomials.{Poly, PolyRing, _+_, _·_, -_, 𝟎, cons
 use Rattle.algebra.specs.Monomials.{x^, coef-power-low}
 use Rattle.algebra.specs.Degree.{Below, Monic, below-𝟎, below-neg, below-constant-mul, monic-add, monic-pow-x}
 use Rattle.frobenius.specs.LinearMaps.{apply, apply-null, apply-sub-multiple, apply-monomial}
-use Rattle.frobenius.specs.Span.{less, coef-less, less-𝟎, Span, Slot, Clear, span-𝟎}
+use Rattle.frobenius.specs.Span.{less, coef-less, less-𝟎, Span, Slot, Clear, span-𝟎, span-up}
 
 module _ {R : Type 0} {𝓡 : CommRing R} where
   -- terms of degree o to i − 1 only
@@ -90,3 +90,13 @@ module _ {R : Type 0} {𝓡 : CommRing R} where
           at : (j : ℕ) → Monic j (r j) → (k ≡ j) ⊎ (k < j) → (k < j → u .coef j ≡ 𝓡 .𝟘) → (less u (u .coef k) (r k)) .coef j ≡ 𝓡 .𝟘
           at j mj (inl e) f = rw e (coef-less u (u .coef j) (r j) j ∙ rw (mj .leading) (simp ring))
           at j mj (inr l) f = above j l (S .slots k) ∙ f l
+
+      -- where no term is left from k on, nothing is left to take off there
+      pub reducing-down : {k l : ℕ} {u w : Poly 𝓡} → k ≤ l → Below k u → Reducing r i l u w → Reducing r i k u w
+      reducing-down {k} {l} {u} h small D = record {
+        back = λ y g. D .back y (span-up r l k (u + - y) h g);
+        clear = λ j g f m. small .high j g;
+        image = D .image;
+        monic = D .monic;
+        base = D .base;
+      }

@@ -3,7 +3,7 @@
 -- free slot takes in does not make the span smaller. Assumes nothing.
 use mathlib.Core.Path.{_≡_, refl, sym, _∙_, ap, ap₂}
 use mathlib.Core.Logic.{_⊎_, inl, inr, _≢_, ⊎-elim}
-use Prim.Native.Nat.{ℕ, zero, suc, _<_}
+use Prim.Native.Nat.{ℕ, zero, suc, _≤_, _<_}
 use native.Mathlib.Nat.{eq-or-lt-of-le}
 use native.Mathlib.Decide.{ℕ-discrete}
 use native.Mathlib.Omega.{arith}
@@ -62,6 +62,16 @@ module _ {R : Type 0} {𝓡 : CommRing R} where
     span-𝟎 zero = refl
     span-𝟎 (suc n) = (𝟘, rw (less-𝟘 𝟎 (r n)) (span-𝟎 n))
 
+    -- more rows span no less
+    pub span-up : (n k : ℕ) (y : Poly 𝓡) → k ≤ n → Span r k y → Span r n y
+    unfolding Span
+    span-up zero k y l h = rw (let e : k ≡ 0 = omega arith in e) at h
+    span-up (suc n) k y l h = go (eq-or-lt-of-le l) (λ m. span-up n k y m h)
+      where
+        go : (k ≡ suc n) ⊎ (k < suc n) → (k ≤ n → Span r n y) → (c : R) × Span r n (less y c (r n))
+        go (inl e) f = rw e at h
+        go (inr m) f = (𝟘, rw (less-𝟘 y (r n)) (f (omega arith)))
+
     pub span-add : (n : ℕ) (y z : Poly 𝓡) → Span r n y → Span r n z → Span r n (y + z)
     unfolding Span
     span-add zero y z e f = ap₂ _+_ e f ∙ (PolyRing 𝓡) .+-zero 𝟎
@@ -105,18 +115,22 @@ module _ {R : Type 0} {𝓡 : CommRing R} where
           rw (solve (PolyRing 𝓡) 2 (λ y a. y ≈ y ⊖ a ⊕ a) tt y (constant c · r n))
           (below-add (below-up (omega arith) (span-below n (less y c (r n)) h)) (below-constant-mul c (row-below n)))
 
-      -- in the span, and 𝟘 at the degree of every row
-      pub span-clear : (n : ℕ) (y : Poly 𝓡) → Span r n y → ((k : ℕ) → k < n → Clear r y k) → y ≡ 𝟎
+      -- in the span, and 𝟘 at the degree of every row from k on
+      pub span-clear : (k n : ℕ) (y : Poly 𝓡) → k ≤ n → Span r n y → ((j : ℕ) → k ≤ j → j < n → Clear r y j) → Below k y
       unfolding Span
-      span-clear zero y e h = e
-      span-clear (suc n) y (c, s) h = span-clear n y (rw (same (slots n)) at s) (λ k l. h k (omega arith))
+      span-clear k zero y l e h = rw e (below-𝟎 k)
+      span-clear k (suc n) y l (c, s) h = go (eq-or-lt-of-le l) (λ m. span-clear k n y m (rw (same m (slots n)) at s) (λ j g f. h j g (omega arith)))
         where
-          same : Slot r n → less y c (r n) ≡ y
-          same (inl e) = ap (less y c) e ∙ less-𝟎 y c
-          same (inr m) = ap (λ d. less y d (r n)) none ∙ less-𝟘 y (r n)
+          go : (k ≡ suc n) ⊎ (k < suc n) → (k ≤ n → Below k y) → Below k y
+          go (inl e) f = rw e (span-below (suc n) y (c, s))
+          go (inr m) f = f (omega arith)
+
+          same : k ≤ n → Slot r n → less y c (r n) ≡ y
+          same f (inl e) = ap (less y c) e ∙ less-𝟎 y c
+          same f (inr m) = ap (λ d. less y d (r n)) none ∙ less-𝟘 y (r n)
             where
               top : (less y c (r n)) .coef n ≡ neg c
-              top = coef-less y c (r n) n ∙ rw (h n (omega arith) m, m .leading) (simp ring)
+              top = coef-less y c (r n) n ∙ rw (h n f (omega arith) m, m .leading) (simp ring)
 
               none : c ≡ 𝟘
               none =

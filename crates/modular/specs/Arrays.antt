@@ -3,12 +3,13 @@
 -- entries are. Assumes nothing.
 use mathlib.Core.Path.{_≡_, sym, _∙_, ap, subst}
 use mathlib.Core.List.{List}
-use mathlib.Core.Logic.{_≢_}
+use mathlib.Core.Logic.{_≢_, ⊎-elim}
 use Prim.Native.Nat.{ℕ, _≤_, _-_, _*_, zero-le}
 use native.Mathlib.Nat.{mod-eq-of-lt, zero-mod, pos-of-ne-zero, mul-le-mul-left}
 use native.Mathlib.Omega.{arith}
 use lib.ListN.{length, getD, take}
 use lib.Seq.{getD-take, length-take-le, ext-getD}
+use Rattle.algebra.specs.Numbers.{lt-or-le}
 use Rattle.algebra.specs.Residues.{residue, residue-zero, same-remainder}
 use Rattle.algebra.specs.Polynomials.{𝟎, poly-ext}
 use Rattle.algebra.specs.Degree.{Below, below-zero, below-𝟎}
@@ -32,11 +33,15 @@ module _ {n : ℕ} where
       long = length-take-le k a (omega (arith, ha .len))
 
   -- no term from k on: the entries there are 0
-  zero-above : {k l : ℕ} {a : List ℕ} → Reduced n l a → Below k (poly n a) → (j : ℕ) → k ≤ j → getD a j 0 ≡ 0
+  pub zero-above : {k l : ℕ} {a : List ℕ} → Reduced n l a → Below k (poly n a) → (j : ℕ) → k ≤ j → getD a j 0 ≡ 0
   zero-above {a = a} ha h j l =
       sym (mod-eq-of-lt (ha .low j))
       ∙ same-remainder n (omega (arith, ha .low 0)) (getD a j 0) 0 (sym (coef-poly n a j) ∙ h .high j l ∙ sym (residue-zero n))
       ∙ zero-mod n
+
+  -- and its size is k at most
+  pub size-small : {k l : ℕ} {a : List ℕ} → Reduced n l a → Below k (poly n a) → {s : ℕ} → Size a s → s ≤ k
+  size-small {k} ha h {s} z = ⊎-elim (λ l. absurd (z .top (omega arith) (zero-above ha h (s - 1) (omega arith)))) (λ l. l) (lt-or-le k s)
 
   -- nor is there one modulo any other number
   pub below-modulo : (b : ℕ) {k l : ℕ} {a : List ℕ} → Reduced n l a → Below k (poly n a) → Below k (poly b a)

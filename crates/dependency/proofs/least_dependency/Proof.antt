@@ -22,7 +22,7 @@ least-dependency-spec =
     tie.close
     (tie.spec Inv-loop μ-loop
     (λ c κs. search needs)  -- no-rows-requires
-    (λ c. searching-none (c .before .pre .1) (c .no-rows .ensures))  -- loop-holds
+    (λ c. searching-none (c .before .pre .0) (c .before .pre .1) (c .no-rows .ensures))  -- loop-holds
     (λ c. search needs)  -- mul-image
     (λ c. search needs)  -- array-copy-out-image
     (λ c κs. search needs)  -- monomial-requires
@@ -30,9 +30,10 @@ least-dependency-spec =
     let pre = c .before .before .before .before .before .before .pre in
     let i = c .before .before .before .before .loop .i in
     let l = c .before .before .before .loop-test .taken in (
+      pre .0 .large,
       search needs,
       search needs,
-      stage-rows _ (c .before .before .before .before .loop .inv .stage),
+      stage-rows _ (c .before .before .before .before .loop .inv .reduced) (c .before .before .before .before .loop .inv .stage),
       pre .3 .reduced i l,
       c .monomial .ensures _ (pre .0 .large) .reduced,
       pre .3 .small i l,
@@ -54,7 +55,7 @@ least-dependency-spec =
       prime,
       omega (arith, s .limit, c .if1 .left),
       search needs,
-      reduced .image,
+      reduced .reduced .image,
       pos-of-ne-zero (s .top (pos-of-ne-zero (c .if1 .left))),
       below-up (omega arith) (below-size _ s),
       below-up (omega arith) (monic .below),

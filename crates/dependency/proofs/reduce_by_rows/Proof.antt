@@ -4,13 +4,14 @@ use Prim.Native.Nat.{_-_}
 use native.Mathlib.Omega.{arith}
 use borrow.Author.Needs.{needs}
 use Rattle.algebra.specs.Degree.{below-up}
-use Rattle.dependency.specs.Reduction.{ReducedFrom, reduced-none, reduced-more, reduced-done}
+use Rattle.dependency.specs.Rows.{row-below, slot-free}
+use Rattle.dependency.specs.Reduction.{ReducedTo, reduced-none, fewer, reduced-more}
 use Rattle.dependency.proofs.reduce_by_rows.Statement.{statement}
 use Rattle.dependency.proofs.reduce_by_rows.Tie as tie
 
 abbrev Inv-loop : tie.InvT-loop
 Inv-loop i d p rows image₀ preimage₀ k₀ image preimage k =
-    ReducedFrom p d i rows (record { image = image₀; preimage = preimage₀ }) k (record { image = image; preimage = preimage })
+    ReducedTo p d i rows (record { image = image₀; preimage = preimage₀ }) k (record { image = image; preimage = preimage })
 
 abbrev μ-loop : tie.MeasureT-loop
 μ-loop i d p rows image₀ preimage₀ k₀ image preimage k = k
@@ -19,27 +20,35 @@ pub reduce-by-rows-spec : {M : Type 1} → statement M
 reduce-by-rows-spec =
     tie.close
     (tie.spec Inv-loop μ-loop
-    (λ c. reduced-none (c .before .before .pre .3) (c .before .before .pre .4) (c .before .before .pre .5))  -- loop-holds
+    (λ c κs. search needs)  -- size-requires
+    (λ c.
+    let pre = c .before .before .before .pre in
+    reduced-none (pre .4) (pre .5) (pre .6) (c .size .ensures))  -- loop-holds
     (λ c. search needs)  -- sub-row
-    (λ c. search needs)  -- mul-row
-    (λ c. search needs)  -- array-copy-out-row
+    (λ c. search (needs, c .before .loop .inv .size .limit))  -- mul-row
+    (λ c. search (needs, c .before .loop .inv .size .limit))  -- array-copy-out-row
+    (λ c. search needs)  -- sub-if1
+    (λ c. search needs)  -- mul-if1
+    (λ c. search needs)  -- array-read-if1
     (λ c. search needs)  -- sub-c
     (λ c. search needs)  -- mul-c
     (λ c. search needs)  -- array-read-c
-    (λ c. omega (arith, c .before .before .before .before .loop .inv .image .low (c .before .before .before .before .loop .k - 1)))  -- sub-c-2
+    (λ c. omega (arith, c .before .before .before .before .before .loop .inv .image .low (c .before .before .before .before .before .loop .k - 1)))  -- sub-c-2
     (λ c κs.
-    let k = c .before .before .before .before .loop .k in
-    let inv = c .before .before .before .before .loop .inv in
-    let pre = c .before .before .before .before .before .before .before .pre in
-    (inv .image, below-up (omega arith) (pre .2 .images (k - 1)), search needs))  -- add-multiple-requires
-    (λ c κs.
-    let k = c .before .before .before .before .before .loop .k in
-    let pre = c .before .before .before .before .before .before .before .before .pre in
-    (c .before .before .before .before .before .loop .inv .preimage, pre .2 .preimages (k - 1), search needs))  -- add-multiple-requires-2
-    (λ c. search needs)  -- sub-k
-    (λ c. search needs)  -- loop-less
+    let inv = c .before .before .before .before .before .loop .inv in
+    (inv .image, below-up (omega arith) (row-below (c .before .before .before .before .before .before .before .before .before .pre .3) (c .before .before .before .before .before .loop .k - 1)), search (needs, inv .size .limit)))  -- add-multiple-requires
+    (λ c κs. (c .before .before .before .before .before .before .loop .inv .preimage, c .before .before .before .before .before .before .before .before .before .before .pre .3 .preimages (c .before .before .before .before .before .before .loop .k - 1), search needs))  -- add-multiple-requires-2
+    (λ c κs. search needs)  -- size-requires-2
     (λ c.
-    let pre = c .before .before .before .before .before .before .before .before .before .pre in
-    reduced-more (pre .2) (search needs) (c .before .before .before .before .before .before .loop .inv) (c .before .add-multiple .ensures)
-    (c .add-multiple2 .ensures))  -- loop-again
-    (λ c. reduced-done (c .loop-test .left) (c .before .loop .inv)))  -- returns
+    let pre = c .before .before .before .before .before .before .before .before .before .before .before .before .pre in
+    fewer (pre .0) (pre .3) (c .before .before .before .before .before .before .before .before .loop .inv) (c .before .before .before .before .before .before .before .loop-test .taken) (c .before .before .before .before .if1 .left)
+    (c .before .before .add-multiple .ensures) (c .before .add-multiple2 .ensures) (c .size2 .ensures))  -- loop-less
+    (λ c.
+    let pre = c .before .before .before .before .before .before .before .before .before .before .before .before .pre in
+    reduced-more (pre .0) (pre .3) (c .before .before .before .before .before .before .before .before .loop .inv) (c .before .before .before .before .before .before .before .loop-test .taken) (c .before .before .before .before .if1 .left)
+    (c .before .before .add-multiple .ensures) (c .before .add-multiple2 .ensures) (c .size2 .ensures))  -- loop-again
+    (λ c. record { terms = _; reduced = c .before .loop .inv; free = λ l. absurd (omega (arith, c .loop-test .left)) })  -- returns
+    (λ c.
+    let pre = c .before .before .before .before .before .before .before .before .pre in
+    let inv = c .before .before .before .before .loop .inv in
+    record { terms = _; reduced = inv; free = λ l. slot-free (pre .3) (pre .0) _ (omega (arith, inv .size .limit)) (c .if1 .taken) }))  -- returns-2
