@@ -1,3 +1,4 @@
 pub mod Remainder
+pub mod Shift
 pub mod Product
 pub mod Power

@@ -1,5 +1,5 @@
 -- Remainders modulo a monic polynomial: `Remainder n q d r p`, the array r holds the remainder of p by q, of degree d.
--- Proves that this fixes the array, and that division and one turn of it, for x·a, leave the remainder. Assumes nothing.
+-- Proves that this fixes the array, and that division leaves the remainder. Assumes nothing.
 use mathlib.Core.Path.{_≡_, _∙_, ap, ap₂}
 use mathlib.Core.List.{List}
 use Prim.Native.Nat.{ℕ, _<_, _+_ as _+ℕ_}
@@ -46,15 +46,3 @@ module _ (n : ℕ) {q : List ℕ} {d : ℕ} where
     congruent = congruent-sym (PolyRing (Residues n))
         (congruent-remainder (record { quotient = poly n t; remainder = poly n r; law = h .law; small = h .small }));
   }
-
-module _ (n : ℕ) (a t : List ℕ) where
-  -- 0 + 1·x^1·a
-  pub times-x : 0 < n → Represents n t (poly n (replicate 33 0) + constant (residue n 1) · (x^ 1 · poly n a)) → poly n t ≡ x · poly n a
-  times-x pos h =
-      h .is
-      ∙ ap₂ (λ z c. z + c · (x^ 1 · poly n a)) ((zeros n pos) .is) (constant-residue-one n)
-      ∙ ap (λ y. 𝟎 + (PolyRing (Residues n)) .𝟙 · (y · poly n a)) (pow-one (PolyRing (Residues n)) x)
-      ∙ solve (PolyRing (Residues n)) 2 (λ x a. con 0 ⊕ con 1 ⊗ (x ⊗ a) ≈ x ⊗ a) tt x (poly n a)
-
-  pub below-times-x : {d : ℕ} → poly n t ≡ x · poly n a → Below d (poly n a) → Below (d +ℕ 1) (poly n t)
-  below-times-x e h = rw (e, add-one) (below-x-mul h)

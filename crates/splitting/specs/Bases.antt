@@ -37,7 +37,7 @@ module _ {p : ℕ} (P : Prime p) {d : ℕ} (q : List ℕ) (m : Monic d (poly p q
     degree = λ S. monic-degree (residue-field p P .one-ne-zero) (rw (is S) at mv) (S .irreducible .monic);
   }
 
-  module _ {y : List ℕ} {images : List Image} {f : Found} (L : LargePower p d q y) (h : PowerImages p q d y 0 d images)
+  module _ {y : List ℕ} {images : List Image} {f : Found} (L : LargePower p d q y) (h : PowerImages p q d (poly p y) 0 d images)
       (a : DependencyFound p images 0 d f) where
     pub base-found : f .found ≡ true → BaseFound p d q (record { degree = f .degree; coefs = f .v })
     base-found e =

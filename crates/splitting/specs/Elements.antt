@@ -12,7 +12,6 @@ use Rattle.frobenius.specs.FrobeniusPowers.{_^_}
 use Rattle.frobenius.specs.SplittingElements.{SplittingElement}
 use Rattle.frobenius.specs.Unsplit.{Unsplit}
 use Rattle.frobenius.specs.PowerDependencies.{dependency-splits, injective-unsplit}
-use Rattle.quotients.specs.Remainder.{Remainder}
 use Rattle.dependency.specs.declared.Image.{Image}
 use Rattle.dependency.specs.declared.Found.{Found}
 use Rattle.dependency.specs.Dependency.{DependencyFound}
@@ -23,10 +22,10 @@ pub record ElementFound (p d : ℕ) (q : List ℕ) (r : Found) : Type 0 where
   pub splits : r .found ≡ true → SplittingElement p d (poly p q) (poly p (r .v))
   pub unsplit : r .found ≡ false → Unsplit p d (poly p q)
 
-pub element-found : {p : ℕ} → Prime p → {d : ℕ} {q y : List ℕ} {images : List Image} {r : Found} → Monic d (poly p q)
-    → Remainder p q d y (x ^ p) → PowerImages p q d y (p - 1) d images → DependencyFound p images 1 d r → ElementFound p d q r
-element-found P m hy h a = record {
+pub element-found : {p : ℕ} → Prime p → {d : ℕ} {q : List ℕ} {images : List Image} {r : Found} → Monic d (poly p q)
+    → PowerImages p q d (x ^ p) (p - 1) d images → DependencyFound p images 1 d r → ElementFound p d q r
+element-found P m h a = record {
   reduced = λ e. a .found e .reduced;
-  splits = λ e. dependency-splits P m (difference-remainders (prime-pos P) h _ hy) (a .found e .within) (a .found e .least);
-  unsplit = λ e. injective-unsplit P m (difference-remainders (prime-pos P) h _ hy) (a .none e);
+  splits = λ e. dependency-splits P m (difference-remainders (prime-pos P) _ h) (a .found e .within) (a .found e .least);
+  unsplit = λ e. injective-unsplit P m (difference-remainders (prime-pos P) _ h) (a .none e);
 }

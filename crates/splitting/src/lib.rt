@@ -7,10 +7,12 @@ use modular::add_multiple;
 use quotients::power_modulo;
 use quotients::power_of_x;
 use quotients::product_modulo;
-ghost use Prim.Native.Nat.{_<_};
+use quotients::times_power_of_x;
+ghost use Prim.Native.Nat.{_<_, _-_};
 ghost use Rattle.algebra.specs.Fields.{Prime};
 ghost use Rattle.algebra.specs.Degree.{Below, Monic};
 ghost use Rattle.algebra.specs.CoefficientLists.{poly, Reduced};
+ghost use Rattle.algebra.specs.Monomials.{x^};
 ghost use Rattle.splitting.specs.Images.{PowerImages};
 ghost use Rattle.splitting.specs.Elements.{ElementFound};
 ghost use Rattle.splitting.specs.LargePowers.{LargePower};
@@ -25,7 +27,7 @@ pub struct Base {
 // y^i + c·x^i modulo q for i below d: the images of the x^i under the map that takes v to v(y) + c·v.
 pub fn images(y: [u16; 33], c: u16, q: [u16; 33], d: usize, p: u16) -> [Image; 33]
     requires { ⌜ (1 < p) × (0 < d) × (d < 33) × Below d (poly p y) × Monic d (poly p q) ⌝ }
-    ensures { λ r. ⌜ PowerImages p q d y c d r ⌝ }
+    ensures { λ r. ⌜ PowerImages p q d (poly p y) c d r ⌝ }
 {
     let none = Image { coefs: [0u16; 33] };
     let mut r = [none; 33];
@@ -43,14 +45,33 @@ pub fn images(y: [u16; 33], c: u16, q: [u16; 33], d: usize, p: u16) -> [Image; 3
     r
 }
 
-// A v that is not constant, of lower degree than q, with v^p = v modulo q; the map is v^p - v, and p - 1 stands for minus one.
+// x^(p·i) - x^i modulo q for i below d: the images of the x^i under the map that takes v to v^p - v. p - 1 stands for minus one.
+pub fn frobenius_images(q: [u16; 33], d: usize, p: u16) -> [Image; 33]
+    requires { ⌜ (1 < p) × (0 < d) × (d < 33) × Monic d (poly p q) ⌝ }
+    ensures { λ r. ⌜ PowerImages p q d (x^ p) (p - 1) d r ⌝ }
+{
+    let none = Image { coefs: [0u16; 33] };
+    let mut r = [none; 33];
+    let mut unit = [0u16; 33];
+    unit[0] = 1;
+    let mut power = unit;
+    let mut i: usize = 0;
+    while i < d {
+        let m = add_multiple(power, p - 1, unit, i, 1, p);
+        r[i] = Image { coefs: m };
+        let v = times_power_of_x(p as usize, power, q, d, p);
+        power = v;
+        i += 1;
+    }
+    r
+}
+
+// A v that is not constant, of lower degree than q, with v^p = v modulo q.
 pub fn splitting_element(q: [u16; 33], d: usize, p: u16) -> Found
     requires { ⌜ Prime p × (0 < d) × (d < 33) × Monic d (poly p q) ⌝ }
     ensures { λ r. ⌜ ElementFound p d q r ⌝ }
 {
-    let y = power_of_x(p as usize, q, d, p);
-    let minus_one = p - 1;
-    let t = images(y, minus_one, q, d, p);
+    let t = frobenius_images(q, d, p);
     least_dependency(t, 1, d, p)
 }
 

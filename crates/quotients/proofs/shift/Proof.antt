@@ -1,8 +1,9 @@
 -- `quotients::shift` meets its contract.
 -- Assumes nothing.
+use native.Mathlib.Numerals.{add-one}
+use native.Mathlib.Omega.{arith}
 use borrow.Author.Needs.{needs}
-use Rattle.modular.specs.Coefficients.{zeros}
-use Rattle.quotients.specs.Remainder.{times-x, below-times-x}
+use Rattle.quotients.specs.Shift.{moved-reduced, shift-low, shift-high}
 use Rattle.quotients.proofs.shift.Statement.{statement}
 use Rattle.quotients.proofs.shift.Tie as tie
 
@@ -10,9 +11,17 @@ pub shift-spec : {M : Type 1} → statement M
 shift-spec =
     tie.close
     (tie.spec
-    (λ c κs. ((zeros _ (c .pre .0)) .reduced, c .pre .2, search needs))  -- add-multiple-requires
-    (λ c. search needs)  -- add-remainder
+    (λ c κs. search needs)  -- times-x-requires
+    (λ c. search needs)  -- mul-if1
+    (λ c. search needs)  -- array-read-if1
+    (λ c. shift-low (c .before .before .pre .1) (c .before .before .pre .2) (c .before .times-x .ensures) (c .if1 .taken))  -- returns
+    (λ c. search needs)  -- mul-c
+    (λ c. search needs)  -- array-read-c
+    (λ c. omega (arith, moved-reduced (c .before .before .pre .1) (c .before .before .pre .2) (c .before .times-x .ensures) .low (c .before .before .args .d)))  -- sub-c
+    (λ c. search needs)  -- add-add-multiple
     (λ c κs.
-    let t = times-x _ _ _ (c .before .pre .0) (c .add-multiple .ensures) in
-    (c .add-multiple .ensures .reduced, search needs, search needs, below-times-x _ _ _ t (c .before .pre .2), c .before .pre .3))  -- remainder-requires
-    (λ c. rw (times-x _ _ _ (c .before .before .pre .0) (c .before .add-multiple .ensures)) at (c .remainder .ensures)))  -- returns
+    let pre = c .before .before .pre in
+    (moved-reduced (pre .1) (pre .2) (c .before .times-x .ensures), rw add-one (pre .3 .below), search needs))  -- add-multiple-requires
+    (λ c.
+    let pre = c .before .before .before .pre in
+    shift-high (pre .1) (pre .2) (c .before .before .times-x .ensures) (pre .3) (c .add-multiple .ensures)))  -- returns-2

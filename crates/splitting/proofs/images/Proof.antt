@@ -12,7 +12,7 @@ use Rattle.splitting.proofs.images.Statement.{statement}
 use Rattle.splitting.proofs.images.Tie as tie
 
 abbrev Inv-loop : tie.InvT-loop
-Inv-loop y c q d p unit r₀ w₀ i₀ r w i = PowerImages p q d y c i r × Remainder p q d w (poly p y ^ i) × (i ≤ d)
+Inv-loop y c q d p unit r₀ w₀ i₀ r w i = PowerImages p q d (poly p y) c i r × Remainder p q d w (poly p y ^ i) × (i ≤ d)
 
 abbrev μ-loop : tie.MeasureT-loop
 μ-loop y c q d p unit r₀ w₀ i₀ r w i = d - i

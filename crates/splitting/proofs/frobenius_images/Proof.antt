@@ -1,0 +1,39 @@
+-- `splitting::frobenius_images` meets its contract. The loop has w = x^(p·i) modulo q.
+-- Assumes nothing.
+use Prim.Native.Nat.{_-_, _≤_}
+use borrow.Author.Needs.{needs}
+use Rattle.algebra.specs.Monomials.{x^}
+use Rattle.frobenius.specs.FrobeniusPowers.{_^_}
+use Rattle.modular.specs.Coefficients.{below-unit}
+use Rattle.quotients.specs.Remainder.{Remainder}
+use Rattle.quotients.specs.Power.{power-none, power-more}
+use Rattle.splitting.specs.Images.{PowerImages, images-none, images-more, images-done}
+use Rattle.splitting.proofs.frobenius_images.Statement.{statement}
+use Rattle.splitting.proofs.frobenius_images.Tie as tie
+
+abbrev Inv-loop : tie.InvT-loop
+Inv-loop q d p r₀ unit w₀ i₀ r w i = PowerImages p q d (x^ p) (p - 1) i r × Remainder p q d w (x^ p ^ i) × (i ≤ d)
+
+abbrev μ-loop : tie.MeasureT-loop
+μ-loop q d p r₀ unit w₀ i₀ r w i = d - i
+
+pub frobenius-images-spec : {M : Type 1} → statement M
+frobenius-images-spec =
+    tie.close
+    (tie.spec Inv-loop μ-loop
+    (λ c. search needs)  -- array-write-unit
+    (λ c. (images-none _ _, power-none _ _ _ (c .pre .0) (c .pre .1), search needs))  -- loop-holds
+    (λ c. search needs)  -- sub-add-multiple
+    (λ c κs. (c .before .loop .inv .1 .reduced, below-unit _ 32, search needs))  -- add-multiple-requires
+    (λ c. search needs)  -- mul-r
+    (λ c. search needs)  -- array-set-from-r
+    (λ c κs. search needs)  -- times-power-of-x-requires
+    (λ c. search needs)  -- add-i
+    (λ c. search needs)  -- loop-less
+    (λ c.
+    let inv = c .before .before .before .loop .inv in (
+      images-more _ _ (c .before .before .loop-test .taken) (search needs) (inv .0) (inv .1) (c .before .add-multiple .ensures),
+      power-more _ _ _ _ (inv .1) (c .times-power-of-x .ensures),
+      search needs,
+    ))  -- loop-again
+    (λ c. images-done _ _ (c .before .loop .inv .2) (c .loop-test .left) (c .before .loop .inv .0)))  -- returns
