@@ -1,0 +1,94 @@
+-- What a caller of `read_sheet` learns from the answer's number.
+-- Proves that with number 0 the sheet is accepted with the polynomial in the answer's array, which is monic of its degree modulo p²,
+-- and that any other number is the fault's, with its place and the zero polynomial of prime 2. Assumes nothing.
+use mathlib.Core.Path.{_≡_, refl, sym, _∙_, ap, subst}
+use mathlib.Core.List.{List, [], _++_}
+use Prim.Native.Nat.{ℕ, suc, _≤_, _<_, _*_}
+use native.Mathlib.Omega.{arith}
+use lib.ListN.{length, replicate}
+use lib.Seq.{take-take, take-at}
+use Rattle.specification.specs.Limits.{taken, coefficientCount, refusedPrime}
+use Rattle.specification.specs.Polynomials.{Poly, degree}
+use Rattle.specification.specs.Records.{pad}
+use Rattle.specification.specs.Sheets.{Sheet, sheetOf, Reading, accepted, fault, readSheet}
+use Rattle.specification.specs.Promises.{GoodSheet}
+use Rattle.algebra.specs.Tests.{passes}
+use Rattle.algebra.specs.Degree.{Monic}
+use Rattle.theorems.specs.MonicLists.{MonicList, from-claims, monic-poly}
+use Rattle.theorems.specs.SheetsRead.{read-is-good}
+use Rattle.theorems.specs.SheetLength.{fault-number}
+use Rattle.polynomial.specs.RecordLaws.{length-pad, getD-pad, poly-pad}
+use Rattle.factors.specs.Cut.{Monics}
+use Rattle.sheets.specs.declared.SheetRead.{SheetRead}
+use Rattle.sheets.specs.Views.{sheetRead, polyIn}
+
+-- ---- a good sheet's polynomial in an array
+
+module _ (s : Sheet) (g : GoodSheet s) where
+  long : length (s .poly) ≡ suc (degree (s .poly))
+  long = omega (arith, g .monic .positive)
+
+  pub good-in : polyIn (degree (s .poly)) (pad (s .poly)) ≡ s .poly
+  unfolding pad
+  good-in =
+      take-take (suc (degree (s .poly))) coefficientCount (s .poly ++ replicate coefficientCount 0) (omega (arith, g .fits))
+      ∙ take-at (s .poly) (replicate coefficientCount 0) (suc (degree (s .poly))) long
+
+  pub good-monics : Monics (s .prime) (pad (s .poly)) (degree (s .poly))
+  good-monics = record {
+    prime = passes (taken (s .prime)) (g .prime);
+    positive = g .monic .positive;
+    fits = omega (arith, g .fits);
+    reduced = record { len = length-pad (s .poly); low = λ k. rw (getD-pad (s .poly) short k) (list .reduced .low k) };
+    monic = subst (Monic (degree (s .poly))) (sym (poly-pad n (s .poly) short)) (monic-poly list);
+  }
+    where
+      n : ℕ
+      n = s .prime * s .prime
+
+      short : length (s .poly) ≤ 33
+      short = omega (arith, long, g .fits)
+
+      positive : 0 < s .prime * s .prime
+      positive = omega (arith, g .monic .reduced 0 (omega (arith, long)))
+
+      list : MonicList (s .prime * s .prime) (degree (s .poly)) (s .poly)
+      list = from-claims positive (g .monic)
+
+-- ---- the two cases of an answer
+
+-- number 0
+pub record Read (bytes : List ℕ) (r : SheetRead) : Type 0 where
+  pub place : r .place ≡ 0
+  pub reading : readSheet bytes ≡ accepted (sheetOf (r .prime) (polyIn (r .degree) (r .coefs)))
+  pub monics : Monics (r .prime) (r .coefs) (r .degree)
+
+-- another number: "the zero polynomial of prime 2"
+pub record Refused (bytes : List ℕ) (r : SheetRead) : Type 0 where
+  pub reading : readSheet bytes ≡ fault (r .number) (r .place)
+  pub prime : r .prime ≡ refusedPrime
+  pub degree : r .degree ≡ 0
+  pub coefs : r .coefs ≡ pad []
+
+module _ (bytes : List ℕ) where
+  answered : (reading : Reading) → readSheet bytes ≡ reading → (sheetRead reading) .number ≡ 0 → Read bytes (sheetRead reading)
+  answered (accepted s) e z = record {
+    place = refl;
+    reading = e ∙ ap (λ (f : Poly). accepted (sheetOf (s .prime) f)) (sym (good-in s good));
+    monics = good-monics s good;
+  }
+    where
+      good : GoodSheet s
+      good = read-is-good bytes s e
+  answered (fault k at) e z = absurd (omega (arith, fault-number bytes k at e))
+
+  refused : (reading : Reading) → readSheet bytes ≡ reading → ((sheetRead reading) .number ≡ 0 → ⊥) → Refused bytes (sheetRead reading)
+  refused (accepted s) e h = absurd (h refl)
+  refused (fault k at) e h = record { reading = e; prime = refl; degree = refl; coefs = refl }
+
+  module _ (r : SheetRead) (e : r ≡ sheetRead (readSheet bytes)) where
+    pub read-accepted : r .number ≡ 0 → Read bytes r
+    read-accepted z = subst (Read bytes) (sym e) (answered (readSheet bytes) refl (sym (ap (λ (x : SheetRead). x .number) e) ∙ z))
+
+    pub read-refused : (r .number ≡ 0 → ⊥) → Refused bytes r
+    read-refused h = subst (Refused bytes) (sym e) (refused (readSheet bytes) refl (λ z. h (ap (λ (x : SheetRead). x .number) e ∙ z)))
