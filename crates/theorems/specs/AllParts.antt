@@ -30,12 +30,12 @@ use Rattle.theorems.specs.PowersOnly.{different-bases}
 use Rattle.theorems.specs.Reductions.{barred, bar-poly, digits-monic}
 use Rattle.theorems.specs.Items.{powers-are, items}
 use Rattle.theorems.specs.ListExtension.{extension}
-use Rattle.theorems.specs.DifferentMembers.{different-append}
+use Rattle.theorems.specs.DifferentMembers.{different-factors, different-append}
 use Rattle.theorems.specs.AnswerLayout.{listOf-cons}
 use Rattle.theorems.specs.PartForm.{PartOver, part-over, base-monic}
 use Rattle.theorems.specs.SplitPart.{SplitPart}
 use Rattle.theorems.specs.Verdicts.{part-splits}
-use Rattle.theorems.specs.PartShapes.{partDegrees}
+use Rattle.theorems.specs.PartShapes.{partDegrees, records}
 
 module _ (p : ℕ) (prime : Prime p) {d : ℕ} {f : spec.Poly} (mf : MonicList (p *ℕ p) d f) where
   abbrev 𝓐 : CommRing (ℤ[x]/ (p *ℕ p))
@@ -147,10 +147,17 @@ module _ (p : ℕ) (prime : Prime p) {d : ℕ} {f : spec.Poly} (mf : MonicList (
         arith,
         ap different (listOf-cons (partOf p f P) (map (partOf p f) Ps)),
         different-append (flatMap copies qs) (list-over Ps),
-        k .few,
+        different-factors qs,
+        k .z-is,
         list-different Ps (rest h),
         total-cons (λ (q : Part (extension p large)). q .z) (k .ring) (ring-parts Ps (rest h)),
       )
+
+  pub list-records : (Ps : List Power) (h : All Known Ps)
+      → records (map (partOf p f) Ps) ≡ total (λ (q : Part (extension p large)). q .z) (ring-parts Ps h)
+  unfolding ring-parts total
+  list-records [] h = refl
+  list-records (P ∷ Ps) h = ap₂ _+ℕ_ (sym (h P (here refl) .split .z-is)) (list-records Ps (rest h))
 
   copies-monic : (qs : List Factor) → All (λ (q : Factor). claims.Monic (p *ℕ p) (q .poly)) qs → All (claims.Monic (p *ℕ p)) (flatMap copies qs)
   unfolding flatMap

@@ -27,7 +27,7 @@ use Rattle.theorems.specs.PartShapes.{partDegrees, FactorShape, PartShap
 
 -- ---- how many bytes
 
-length-coefficients : (i : ℕ) (f : Poly) → length (coefficientBytes i f) ≤ 3 * length f
+pub length-coefficients : (i : ℕ) (f : Poly) → length (coefficientBytes i f) ≤ 3 * length f
 unfolding coefficientBytes
 length-coefficients i [] = omega arith
 length-coefficients i (zero ∷ f) = omega (arith, length-coefficients (suc i) f)
@@ -86,7 +86,7 @@ byte-verdict (split m1) = omega arith
 byte-none : All Byte []
 byte-none b i = elim i [ ]
 
-bytes-coefficients : (i : ℕ) (f : Poly) → i + length f ≤ 256 → ((k : ℕ) → k < length f → Byte (getD f k 0)) → All Byte (coefficientBytes i f)
+pub bytes-coefficients : (i : ℕ) (f : Poly) → i + length f ≤ 256 → ((k : ℕ) → k < length f → Byte (getD f k 0)) → All Byte (coefficientBytes i f)
 unfolding coefficientBytes
 bytes-coefficients i [] l h = byte-none
 bytes-coefficients i (zero ∷ f) l h = bytes-coefficients (suc i) f (omega arith) (λ k u. h (suc k) (omega arith))

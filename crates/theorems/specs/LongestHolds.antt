@@ -1,5 +1,5 @@
 -- Term 3 of the list that items 4 to 9 give for some of the parts of f: of all of them, and of one. Over every monic f and every prime.
--- Proves `longest` and `part-longest` from the theory of longest lists. Assumes nothing.
+-- Proves `longest` and `part-longest` from the theory of longest lists, and that the factors written are different ones. Assumes nothing.
 use mathlib.Core.Path.{_≡_, refl, sym, _∙_, ap, subst}
 use mathlib.Core.List.{List, [], _∷_, map, flatMap, append-nil, map-map, Memᴰ·map}
 use Prim.Native.Nat.{ℕ, _≤_, _<_, _*_ as _*ℕ_}
@@ -20,6 +20,7 @@ use Rattle.algebra.specs.Homomorphisms.{monic-map}
 use Rattle.algebra.specs.Fields.{Prime, residue-nontrivial}
 use Rattle.algebra.specs.CoefficientLists.{ℤ[x]/, poly, poly-mul, poly-product}
 use Rattle.factorisation.specs.Members.{_∈_, All, all-cons, all-map}
+use Rattle.factorisation.specs.Sums.{total as sum}
 use Rattle.factorisation.specs.MonicDivisors.{IsMonic, monics, divisor-degree}
 use Rattle.factorisation.specs.Monics.{MonicMap}
 use Rattle.factorisation.specs.LongestLists.{Part, Apart, FactorList, LongestList, Proper, whole, length-at-most, no-product}
@@ -31,6 +32,7 @@ use Rattle.theorems.specs.Reductions.{coefficients, barred}
 use Rattle.theorems.specs.Items.{powers-are, items}
 use Rattle.theorems.specs.ListExtension.{extension}
 use Rattle.theorems.specs.DifferentMembers.{decide, different-polys}
+use Rattle.theorems.specs.PartShapes.{records}
 use Rattle.theorems.specs.AllParts.{
   Known,
   known,
@@ -42,6 +44,7 @@ use Rattle.theorems.specs.AllParts.{
   list-product,
   list-size,
   list-different,
+  list-records,
   list-monic,
 }
 
@@ -113,16 +116,23 @@ module _ (p : ℕ) (prime : Prime p) {d : ℕ} {f : spec.Poly} (mf : MonicList (
         → LongestList (extension p large) Q (map (poly (p *ℕ p)) M)
     longest-list {M} l n = record { list = factors-F l; full = length-map M (poly (p *ℕ p)) ∙ n ∙ list-size p prime mf Ps h }
 
-    few-different : (M : List spec.Poly) → claims.Factorisation (p *ℕ p) F M → length M ≡ length L → different L ≤ different M
-    few-different M l n =
+    -- how many different members the theory of longest lists gives
+    abbrev z : ℕ
+    z = sum (λ (q : Part (extension p large)). q .z) Q
+
+    many-different : (M : List spec.Poly) → claims.Factorisation (p *ℕ p) F M → length M ≡ length L → z ≤ different M
+    many-different M l n =
         omega (
           arith,
-          list-different p prime mf Ps h,
           different-at-least (extension p large) monic-map-of apart (longest-list l n)
               (all-map IsMonic (poly (p *ℕ p)) M (λ q i. (spec.degree q, monic-poly (is-monic (l .monic q i)))))
               (monic-parts p prime mf Ps h) (decide (p *ℕ p)),
           different-polys (p *ℕ p) M (λ a b i j. monic-equal (square-large p large) (is-monic (l .monic a i)) (is-monic (l .monic b j))),
         )
+
+    -- what is written has no more, and no fewer
+    different-over : different L ≡ z
+    different-over = omega (arith, list-different p prime mf Ps h, many-different L L-list refl)
 
     pub longest-over : claims.Longest (p *ℕ p) F (list-over p prime mf Ps) (length (list-over p prime mf Ps)) (different (list-over p prime mf Ps))
     longest-over = record {
@@ -137,7 +147,7 @@ module _ (p : ℕ) (prime : Prime p) {d : ℕ} {f : spec.Poly} (mf : MonicList (
             (ap (poly (p *ℕ p)) (sym k) ∙ poly-mul (p *ℕ p) positive a b);
       };
       longest = λ M l. omega (arith, length-at-most (extension p large) apart (factors-F l), length-map M (poly (p *ℕ p)), list-size p prime mf Ps h);
-      fewest = few-different;
+      fewest = λ M l n. omega (arith, different-over, many-different M l n);
     }
 
   -- ---- all parts, and one
@@ -145,6 +155,13 @@ module _ (p : ℕ) (prime : Prime p) {d : ℕ} {f : spec.Poly} (mf : MonicList (
   pub longest : claims.Longest (p *ℕ p) f (listOf (partsOf p f)) (total (partsOf p f)) (different (listOf (partsOf p f)))
   unfolding partsOf
   longest = longest-over (powers p f) (known p prime mf) (powers-are p prime mf .inOrder) mf (items p prime mf .partsMultiply)
+
+  -- no two of the factors that are written are the same
+  pub different-records : different (listOf (partsOf p f)) ≡ records (partsOf p f)
+  unfolding partsOf
+  different-records =
+      different-over (powers p f) (known p prime mf) (powers-are p prime mf .inOrder) mf (items p prime mf .partsMultiply)
+      ∙ sym (list-records p prime mf (powers p f) (known p prime mf))
 
   pub part-longest : (P : Power) → P ∈ powers p f
       → claims.Longest (p *ℕ p) (primary p f P) (members (partOf p f P)) (length (members (partOf p f P))) (different (members (partOf p f P)))

@@ -26,6 +26,10 @@ partDegree P = degree (P .base) * P .exponent
 abbrev pub partDegrees : List Part → ℕ
 partDegrees Ps = sum partDegree Ps
 
+-- how many factors are written, each once: the 0x12 commands of an answer
+abbrev pub records : List Part → ℕ
+records Ps = sum (λ (P : Part). length (P .splitting .factors)) Ps
+
 -- a factor of a part over a base of degree d
 pub record FactorShape (n d : ℕ) (q : Factor) : Type 0 where
   pub monic : claims.Monic n (q .poly)

@@ -11,7 +11,7 @@ use native.Mathlib.Decide.{decLe}
 use native.Mathlib.Omega.{arith}
 use Rattle.specification.specs.Polynomials as spec
 use Rattle.specification.specs.Parts.{Factor, factor}
-use Rattle.specification.specs.Totals.{copies, different}
+use Rattle.specification.specs.Totals.{copies}
 use Rattle.specification.specs.Claims as claims
 use Rattle.algebra.specs.Numbers.{square-large}
 use Rattle.algebra.specs.Ring.{CommRing, mul-one}
@@ -28,7 +28,6 @@ use Rattle.factorisation.specs.LongestLists.{Part, Split}
 use Rattle.theorems.specs.MonicLists.{monic-poly, monic-same}
 use Rattle.theorems.specs.Reductions.{barred, bar-poly}
 use Rattle.theorems.specs.Irreducibles.{prime-poly}
-use Rattle.theorems.specs.DifferentMembers.{different-factors}
 use Rattle.theorems.specs.Factors.{degrees, repeats, length-members, members-monic, powered, poly-members}
 use Rattle.theorems.specs.ListExtension.{extension}
 use Rattle.theorems.specs.PartForm.{PartOver, PowerDivides, h, shape, bar-h}
@@ -45,16 +44,16 @@ pub record SplitPart (p : ℕ) (large : 1 < p) (G : spec.Poly) (m : ℕ) (part :
   pub multiplies : spec.product (p *ℕ p) (flatMap copies qs) ≡ part
   pub degree-sum : degrees qs ≡ m *ℕ spec.degree G
   pub not-lower : (q : Factor) → q ∈ qs → spec.degree G ≤ spec.degree (q .poly)
-  -- the part as the theory of longest lists has it, for as many factors as are written and no more different ones
+  -- the part as the theory of longest lists has it, for as many factors as are written, each entry of qs a different one
   pub ring : Part (extension p large)
   pub g-is : ring .g ≡ poly (p *ℕ p) G
   pub m-is : ring .m ≡ m
   pub P-is : ring .P ≡ poly (p *ℕ p) part
   pub s-is : ring .s ≡ length (flatMap copies qs)
+  pub z-is : ring .z ≡ length qs
   -- s members need not more than m, nor a higher power of G in h bar than there is
   pub room : ring .s ≤ m
   pub divides : _∣_ (PolyRing (Residues p)) (pow (PolyRing (Residues p)) (poly p G) (ring .s - 1)) (barred p large (ring .h))
-  pub few : different (flatMap copies qs) ≤ ring .z
 
 -- where the repeats are m at most, a factor of lower degree than G would leave the degrees' sum too small
 lowest : (d e t u m : ℕ) → 1 ≤ t → t +ℕ u ≤ m → e *ℕ t +ℕ d *ℕ u ≡ m *ℕ d → d ≤ e
@@ -119,9 +118,9 @@ module _ {p : ℕ} (prime : Prime p) {G : spec.Poly} {m : ℕ} {part : spec.Poly
       m-is = refl;
       P-is = refl;
       s-is = sym (length-members qs ∙ count);
+      z-is = sym kinds;
       room = room;
       divides = rw (bar-h large over) divides;
-      few = omega (arith, different-factors qs, kinds);
     }
       where
         sum : degrees qs ≡ m *ℕ spec.degree G

@@ -12,6 +12,7 @@ use Rattle.specification.specs.Limits.{degreeLimit, answerArea}
 use Rattle.specification.specs.Polynomials.{Poly, degree, product}
 use Rattle.specification.specs.Powers.{powers}
 use Rattle.specification.specs.Parts.{Part, partOf, partsOf}
+use Rattle.specification.specs.Totals.{listOf, different}
 use Rattle.specification.specs.Sheets.{Sheet, accepted, readSheet, sheetBytes}
 use Rattle.specification.specs.Answers.{answer}
 use Rattle.specification.specs.FactorList.{factorList}
@@ -29,12 +30,12 @@ use Rattle.theorems.specs.SheetsBothWays.{accepted-exactly}
 use Rattle.theorems.specs.SheetLength.{fault-place, long-refused}
 use Rattle.theorems.specs.AnswerLayout.{sheetParts}
 use Rattle.theorems.specs.AnswerReadBack.{MonicFactors, longest-in}
-use Rattle.theorems.specs.PartShapes.{PartShape, partDegrees}
+use Rattle.theorems.specs.PartShapes.{PartShape, partDegrees, records}
 use Rattle.theorems.specs.AnswerSize.{answer-fits, answer-is-bytes}
 use Rattle.theorems.specs.Reader as reader
 use Rattle.theorems.specs.Reader.{split-written}
 use Rattle.theorems.specs.AllParts.{Known, known, parts-monic}
-use Rattle.theorems.specs.LongestHolds.{longest, part-longest}
+use Rattle.theorems.specs.LongestHolds.{longest, different-records, part-longest}
 use Rattle.theorems.specs.SettingsCounted.{settings-counted}
 
 module _ (s : Sheet) (g : promises.GoodSheet s) where
@@ -55,7 +56,7 @@ module _ (s : Sheet) (g : promises.GoodSheet s) where
   monic-factors : MonicFactors (p * p) (sheetParts s)
   monic-factors = all-parts _ (λ P k. k .split .monic)
 
-  shapes : All (PartShape (p * p)) (sheetParts s)
+  pub shapes : All (PartShape (p * p)) (sheetParts s)
   shapes =
       all-parts (PartShape (p * p))
       (λ P k. record {
@@ -79,10 +80,14 @@ module _ (s : Sheet) (g : promises.GoodSheet s) where
   answer-longest : claims.LongestIn s (answer s)
   answer-longest = longest-in s monic-factors (longest p prime monic)
 
-  fits : promises.Fits (answer s)
+  pub fits : promises.Fits (answer s)
   fits =
       let low : partDegrees (sheetParts s) ≤ degreeLimit = omega (arith, parts-degrees, g .fits) in
       record { short = answer-fits s shapes low; low = answer-is-bytes s shapes low g }
+
+  -- the factors that are written are different ones
+  pub factors-differ : different (listOf (sheetParts s)) ≡ records (sheetParts s)
+  factors-differ = different-records p prime monic
 
 -- ---- terms 2 and 3
 

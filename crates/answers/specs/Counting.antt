@@ -1,0 +1,158 @@
+-- The three totals of an answer as sums over the code's parts: each part adds its factors with repeats, its records, its free digits.
+-- Proves that these sums are the totals of the definitions, and what a loop over an array adds up. Assumes nothing.
+use mathlib.Core.Path.{_≡_, refl, sym, _∙_, ap, subst}
+use mathlib.Core.Bool.{true, false}
+use mathlib.Core.List.{List, [], _∷_, map, flatMap}
+use Prim.Native.Nat.{ℕ, zero, suc, _+_, _-_, _*_, _≤_, _<_}
+use native.Mathlib.Nat.{add-zero}
+use native.Mathlib.Numerals.{add-one}
+use native.Mathlib.Omega.{arith}
+use lib.ListN.{length, getD, take, length-append}
+use lib.Seq.{getD-take, length-take-le}
+use Rattle.specification.specs.Polynomials.{degree}
+use Rattle.specification.specs.Totals.{copies, members, listOf, total, freeDigits}
+use Rattle.factorisation.specs.Members.{All}
+use Rattle.factorisation.specs.Sums.{total as sum}
+use Rattle.theorems.specs.Factors.{length-members}
+use Rattle.theorems.specs.PartShapes.{records}
+use Rattle.verdicts.specs.declared.Part.{Part}
+use Rattle.verdicts.specs.Views.{asFactor, asPart}
+use Rattle.pieces.specs.Shifting.{all-read}
+use Rattle.writing.specs.Coefficients.{degree-listed}
+use Rattle.answers.specs.Layout.{isSplit, split-factors, other-factors}
+
+-- ---- what a part adds
+
+-- "factors of that part, with repeats"
+abbrev pub partFactors : Part → ℕ
+partFactors x = length (members (asPart x))
+
+-- its 0x12 commands
+abbrev pub partRecords : Part → ℕ
+partRecords x = length (asPart x .splitting .factors)
+
+-- "d times (factors of that part, with repeats, minus 1)"
+abbrev pub partFree : Part → ℕ
+partFree x = degree (asPart x .base) * (partFactors x - 1)
+
+-- the part x adds these to the three totals
+abbrev pub Adds : Part → ℕ → ℕ → ℕ → Type 0
+Adds x t u v = (t ≡ partFactors x) × (u ≡ partRecords x) × (v ≡ partFree x)
+
+module _ (x : Part) where
+  pub split-counts : isSplit (x .verdict) ≡ true → (partFactors x ≡ x .first .times + x .second .times) × (partRecords x ≡ 2)
+  unfolding members sum
+  split-counts e =
+      let q = split-factors (x .verdict) (x .first) (x .second) e in (
+        ap (λ qs. length (flatMap copies qs)) q ∙ length-members (asFactor (x .first) ∷ asFactor (x .second) ∷ [])
+            ∙ ap (λ k. x .first .times + k) (add-zero (x .second .times)),
+        ap length q,
+      )
+
+  pub other-counts : isSplit (x .verdict) ≡ false → (partFactors x ≡ x .first .times) × (partRecords x ≡ 1)
+  unfolding members sum
+  other-counts e =
+      let q = other-factors (x .verdict) (x .first) (x .second) e in (
+        ap (λ qs. length (flatMap copies qs)) q ∙ length-members (asFactor (x .first) ∷ []) ∙ add-zero (x .first .times),
+        ap length q,
+      )
+
+  pub free-counts : length (x .base) ≡ 33 → x .degree ≤ 32 → {s : ℕ} → partFactors x ≡ s → x .degree * (s - 1) ≡ partFree x
+  free-counts long l e = rw (degree-listed (x .degree) (x .base) (omega arith), e)
+
+-- ---- the totals are sums
+
+pub total-sum : (xs : List Part) → total (map asPart xs) ≡ sum partFactors xs
+unfolding listOf flatMap sum
+total-sum [] = refl
+total-sum (x ∷ xs) = length-append (members (asPart x)) (listOf (map asPart xs)) ∙ ap (λ k. partFactors x + k) (total-sum xs)
+
+pub records-sum : (xs : List Part) → records (map asPart xs) ≡ sum partRecords xs
+unfolding sum
+records-sum [] = refl
+records-sum (x ∷ xs) = ap (λ k. partRecords x + k) (records-sum xs)
+
+pub free-sum : (xs : List Part) → freeDigits (map asPart xs) ≡ sum partFree xs
+unfolding freeDigits sum
+free-sum [] = refl
+free-sum (x ∷ xs) = ap (λ k. partFree x + k) (free-sum xs)
+
+-- ---- a loop over an array
+
+module _ {A : Type 0} (f : A → ℕ) where
+  sum-more : (d : A) (l : List A) (i : ℕ) → i < length l → sum f (take (suc i) l) ≡ sum f (take i l) + f (getD l i d)
+  unfolding sum
+  sum-more d [] i u = absurd (omega arith)
+  sum-more d (a ∷ l) zero u = omega arith
+  sum-more d (a ∷ l) (suc i) u = omega (arith, sum-more d l i (omega arith))
+
+  sum-within : (l : List A) (i n : ℕ) → i ≤ n → sum f (take i l) ≤ sum f (take n l)
+  unfolding sum
+  sum-within [] zero zero u = omega arith
+  sum-within [] zero (suc n) u = omega arith
+  sum-within [] (suc i) zero u = omega arith
+  sum-within [] (suc i) (suc n) u = omega arith
+  sum-within (a ∷ l) zero n u = omega arith
+  sum-within (a ∷ l) (suc i) zero u = absurd (omega arith)
+  sum-within (a ∷ l) (suc i) (suc n) u = omega (arith, sum-within l i n (omega arith))
+
+  -- d is what is read past the array's end
+  sum-next : (d : A) (l : List A) (i : ℕ) {k v : ℕ} → i < length l → k ≡ sum f (take i l) → v ≡ f (getD l i d) → k + v ≡ sum f (take (i + 1) l)
+  sum-next d l i u e q = rw (e, q) (sym (sum-more d l i u) ∙ ap (λ j. sum f (take j l)) (sym (add-one i)))
+
+  sum-bound : (l : List A) (i n : ℕ) {k b : ℕ} → i < n → sum f (take n l) < b → k ≡ sum f (take (i + 1) l) → k < b
+  sum-bound l i n u v e = omega (arith, sum-within l (i + 1) n (omega arith))
+
+-- what holds of the first n holds of each
+pub all-at : {A : Type 0} (P : A → Type 0) (d : A) (l : List A) (i n : ℕ) → i < n → n ≤ length l → All P (take n l) → P (getD l i d)
+all-at P d l i n u v h = rw (← getD-take n l i d u) (all-read P d (take n l) h i (omega (arith, length-take-le n l v)))
+
+-- ---- counting the parts
+
+-- s factors with repeats, z records, r free digits
+pub record Counted (xs : List Part) (s z r : ℕ) : Type 0 where
+  pub factors : s ≡ sum partFactors xs
+  pub different : z ≡ sum partRecords xs
+  pub free : r ≡ sum partFree xs
+
+-- what is asked of parts that are counted: each total is one byte
+pub record Countable (xs : List Part) : Type 0 where
+  pub factors : sum partFactors xs < 256
+  pub different : sum partRecords xs < 256
+  pub free : sum partFree xs < 256
+  pub degrees : All (λ x. x .degree ≤ 32) xs
+  pub repeated : All (λ x. 1 ≤ partFactors x) xs
+
+pub counted-none : (xs : List Part) → Counted (take 0 xs) 0 0 0
+unfolding sum
+counted-none xs = record { factors = refl; different = refl; free = refl }
+
+pub counted-done : (xs : List Part) (i n : ℕ) {s z r : ℕ} → i ≤ n → n ≤ i → Counted (take i xs) s z r → Counted (take n xs) s z r
+counted-done xs i n {s} {z} {r} l u w = subst (λ (k : ℕ). Counted (take k xs) s z r) (let e : i ≡ n = omega arith in e) w
+
+-- a turn at the place i of n; d is what is read past the array's end
+module _ (d : Part) (xs : List Part) (n : ℕ) (room : n ≤ length xs) (i : ℕ) (l : i < n) where
+  pub counted-more : {s z r t u v : ℕ} → Counted (take i xs) s z r → Adds (getD xs i d) t u v → Counted (take (i + 1) xs) (s + t) (z + u) (r + v)
+  counted-more w (e, f, g) = record {
+    factors = sum-next partFactors d xs i (omega arith) (w .factors) e;
+    different = sum-next partRecords d xs i (omega arith) (w .different) f;
+    free = sum-next partFree d xs i (omega arith) (w .free) g;
+  }
+
+  module _ (h : Countable (take n xs)) where
+    -- no sum on the way is more than one byte
+    pub counted-low : {s z r t u v : ℕ} → Counted (take i xs) s z r → Adds (getD xs i d) t u v → (s + t < 256) × (z + u < 256) × (r + v < 256)
+    counted-low w e =
+        let next = counted-more w e in (
+          sum-bound partFactors xs i n l (h .factors) (next .factors),
+          sum-bound partRecords xs i n l (h .different) (next .different),
+          sum-bound partFree xs i n l (h .free) (next .free),
+        )
+
+    -- nor is a part's own
+    pub part-countable : (getD xs i d .degree ≤ 32) × (1 ≤ partFactors (getD xs i d)) × (partFactors (getD xs i d) < 256)
+    part-countable = (
+      all-at (λ x. x .degree ≤ 32) d xs i n l room (h .degrees),
+      all-at (λ x. 1 ≤ partFactors x) d xs i n l room (h .repeated),
+      omega (arith, sum-more partFactors d xs i (omega arith), sum-within partFactors xs (suc i) n l, h .factors),
+    )

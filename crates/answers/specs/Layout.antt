@@ -1,0 +1,130 @@
+-- The layout of an answer over the code's arrays: the bytes of a factor, of a part and of an answer, as they are written one after the other.
+-- Proves that they are those of the definitions. Assumes nothing.
+use mathlib.Core.Path.{_≡_, refl, sym, _∙_, ap, ap₂, subst}
+use mathlib.Core.Bool.{Bool, true, false}
+use mathlib.Core.List.{List, [], _∷_, _++_, map, flatMap, append-assoc, append-nil}
+use Prim.Native.Nat.{ℕ, suc, _≤_, _<_}
+use native.Mathlib.Omega.{arith}
+use lib.ListN.{length, getD, take}
+use lib.Seq.{take-suc}
+use lib.Dec.{T}
+use Rattle.specification.specs.Polynomials.{Poly, degree}
+use Rattle.specification.specs.Parts as parts
+use Rattle.specification.specs.Totals.{listOf, total, different, freeDigits}
+use Rattle.specification.specs.Sheets.{coefficientBytes}
+use Rattle.specification.specs.Answers.{verdictNumber, factorBytes, partBytes, totalBytes}
+use Rattle.theorems.specs.AnswerLayout.{answerBytes}
+use Rattle.verdicts.specs.declared.Verdict.{Verdict}
+use Rattle.verdicts.specs.declared.Verdict.the-variants.{Basic, Solid, Power, Split}
+use Rattle.verdicts.specs.declared.Factor.{Factor}
+use Rattle.verdicts.specs.declared.Part.{Part}
+use Rattle.verdicts.specs.Views.{asVerdict, asFactor, asFactors, asPart}
+use Rattle.writing.specs.Turns.{Turns}
+use Rattle.writing.specs.Coefficients.{degree-listed, lower-listed}
+
+-- "0x12 followed by its 0x03 commands"
+pub factor-is : (q : Factor) → length (q .coefs) ≡ 33 → q .degree ≤ 32
+    → (0x12 ∷ q .degree ∷ q .times ∷ []) ++ coefficientBytes 0 (take (q .degree) (q .coefs)) ≡ factorBytes (asFactor q)
+unfolding factorBytes
+factor-is q long l =
+    sym (ap₂ (λ (e : ℕ) (f : Poly). 0x12 ∷ e ∷ q .times ∷ coefficientBytes 0 f) (degree-listed (q .degree) (q .coefs) (omega arith))
+    (lower-listed (q .degree) (q .coefs) (omega arith)))
+
+-- 0x11: "degree of G, power, verdict", and the part's factors
+pub part-is : (x : Part) → length (x .base) ≡ 33 → x .degree ≤ 32 → {v : ℕ} → v ≡ verdictNumber (asVerdict (x .verdict))
+    → (0x11 ∷ x .degree ∷ x .exponent ∷ v ∷ []) ++ flatMap factorBytes (asFactors (x .verdict) (x .first) (x .second)) ≡ partBytes (asPart x)
+unfolding partBytes
+part-is x long l e =
+    ap₂ (λ (d v : ℕ). 0x11 ∷ d ∷ x .exponent ∷ v ∷ flatMap factorBytes (asFactors (x .verdict) (x .first) (x .second)))
+    (sym (degree-listed (x .degree) (x .base) (omega arith))) e
+
+-- ---- one factor or two
+
+-- the second factor counts where the verdict is split
+abbrev pub isSplit : Verdict → Bool
+isSplit Basic = false
+isSplit Solid = false
+isSplit Power = false
+isSplit (Split k) = true
+
+module _ (v : Verdict) (a b : Factor) where
+  pub split-factors : isSplit v ≡ true → asFactors v a b ≡ asFactor a ∷ asFactor b ∷ []
+  split-factors e = go v e
+    where
+      go : (u : Verdict) → isSplit u ≡ true → asFactors u a b ≡ asFactor a ∷ asFactor b ∷ []
+      go Basic q = absurd (subst T (sym q) tt)
+      go Solid q = absurd (subst T (sym q) tt)
+      go Power q = absurd (subst T (sym q) tt)
+      go (Split k) q = refl
+
+  pub other-factors : isSplit v ≡ false → asFactors v a b ≡ asFactor a ∷ []
+  other-factors e = go v e
+    where
+      go : (u : Verdict) → isSplit u ≡ false → asFactors u a b ≡ asFactor a ∷ []
+      go Basic q = refl
+      go Solid q = refl
+      go Power q = refl
+      go (Split k) q = absurd (subst T q tt)
+
+  -- the first counts in any case
+  pub first-factor-bytes : (rest : List ℕ) × (factorBytes (asFactor a) ++ rest ≡ flatMap factorBytes (asFactors v a b))
+  unfolding flatMap
+  first-factor-bytes = go v
+    where
+      go : (u : Verdict) → (rest : List ℕ) × (factorBytes (asFactor a) ++ rest ≡ flatMap factorBytes (asFactors u a b))
+      go Basic = ([], refl)
+      go Solid = ([], refl)
+      go Power = ([], refl)
+      go (Split k) = (flatMap factorBytes (asFactor b ∷ []), refl)
+
+  pub two-factors-bytes : isSplit v ≡ true → factorBytes (asFactor a) ++ factorBytes (asFactor b) ≡ flatMap factorBytes (asFactors v a b)
+  unfolding flatMap
+  two-factors-bytes e =
+      sym (ap (flatMap factorBytes) (split-factors e) ∙ ap (λ (l : List ℕ). factorBytes (asFactor a) ++ l) (append-nil (factorBytes (asFactor b))))
+
+  pub one-factor-bytes : isSplit v ≡ false → factorBytes (asFactor a) ≡ flatMap factorBytes (asFactors v a b)
+  unfolding flatMap
+  one-factor-bytes e = sym (ap (flatMap factorBytes) (other-factors e) ∙ append-nil (factorBytes (asFactor a)))
+
+-- ---- the parts, one by one
+
+module _ {A B : Type 0} (g : A → List B) where
+  flatMap-append : (l m : List A) → flatMap g (l ++ m) ≡ flatMap g l ++ flatMap g m
+  unfolding flatMap
+  flatMap-append [] m = refl
+  flatMap-append (a ∷ l) m = ap (λ (r : List B). g a ++ r) (flatMap-append l m) ∙ sym (append-assoc (g a) (flatMap g l) (flatMap g m))
+
+  flatMap-next : (d : A) (l : List A) (i : ℕ) → i < length l → flatMap g (take (suc i) l) ≡ flatMap g (take i l) ++ g (getD l i d)
+  flatMap-next d l i u =
+      ap (flatMap g) (take-suc l i d u) ∙ flatMap-append (take i l) (getD l i d ∷ [])
+      ∙ ap (λ (r : List B). flatMap g (take i l) ++ r) (unfold flatMap in append-nil (g (getD l i d)))
+
+flatMap-map : {A B C : Type 0} (g : B → List C) (h : A → B) (l : List A) → flatMap g (map h l) ≡ flatMap (λ (a : A). g (h a)) l
+unfolding flatMap
+flatMap-map g h [] = refl
+flatMap-map g h (a ∷ l) = ap (λ r. g (h a) ++ r) (flatMap-map g h l)
+
+-- the bytes of the code's parts
+abbrev pub partsBytes : List Part → List ℕ
+partsBytes xs = flatMap (λ (x : Part). partBytes (asPart x)) xs
+
+-- d is what is read past an array's end
+pub part-turns : (d : Part) (xs : List Part) (n : ℕ) → n ≤ length xs
+    → Turns (λ i. partsBytes (take i xs)) (λ i. partBytes (asPart (getD xs i d))) n
+unfolding flatMap
+part-turns d xs n l = record { none = refl; next = λ i u. flatMap-next (λ (x : Part). partBytes (asPart x)) d xs i (omega arith) }
+
+-- ---- the whole
+
+-- 0x13 and the end
+abbrev pub endBytes : ℕ → ℕ → ℕ → List ℕ
+endBytes s z r = 0x13 ∷ s ∷ z ∷ r ∷ 0x0F ∷ []
+
+pub answer-is : (p d : ℕ) (xs : List Part) {s z r : ℕ} → s ≡ total (map asPart xs) → z ≡ different (listOf (map asPart xs)) → r ≡ freeDigits (map asPart xs)
+    → (0x01 ∷ p ∷ 0x02 ∷ d ∷ []) ++ partsBytes xs ++ endBytes s z r ≡ answerBytes p d (map asPart xs)
+unfolding totalBytes
+answer-is p d xs e f g =
+    let Ps : List parts.Part = map asPart xs in
+    rw (e, f, g) (ap (λ (l : List ℕ). 0x01 ∷ p ∷ 0x02 ∷ d ∷ l)
+    (ap (λ (l : List ℕ). l ++ endBytes (total Ps) (different (listOf Ps)) (freeDigits Ps)) (sym (flatMap-map partBytes asPart xs))
+    ∙ sym (append-assoc (flatMap partBytes Ps) (totalBytes Ps) (0x0F ∷ []))))

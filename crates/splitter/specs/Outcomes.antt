@@ -1,0 +1,81 @@
+-- What a call gives back and leaves in the area: `Called o r old new`, the code's outcome r and the area new are what the outcome o of the specification says.
+-- Proves this of a call that is turned back and of one that wrote its bytes, and what `splitCall` is in each case. Assumes nothing.
+use mathlib.Core.Path.{_≡_, refl, sym, _∙_, ap, subst}
+use mathlib.Core.Bool.{true, false}
+use mathlib.Core.List.{List}
+use Prim.Native.Nat.{ℕ, suc, _≤_, _<_, _*_ as _*ℕ_}
+use native.Mathlib.Omega.{arith}
+use lib.ListN.{length}
+use lib.Seq.{length-take-le}
+use lib.Dec.{T, ltb}
+use borrow.Author.Tests.{lt-ltb, le-ltb}
+use Rattle.specification.specs.Limits.{taken, answerArea}
+use Rattle.specification.specs.Polynomials.{degree}
+use Rattle.specification.specs.Sheets.{Sheet, sheetOf, accepted, fault, readSheet}
+use Rattle.specification.specs.Answers.{answer}
+use Rattle.specification.specs.Calls as calls
+use Rattle.specification.specs.Promises.{GoodSheet}
+use Rattle.algebra.specs.Numbers.{square-large}
+use Rattle.theorems.specs.MonicLists.{to-claims}
+use Rattle.factors.specs.Cut.{Monics}
+use Rattle.verdicts.specs.Given.{listed, is-prime}
+use Rattle.pieces.specs.ArrayPieces.{listed-monic}
+use Rattle.writing.specs.Area.{Wrote, wrote-from-start}
+use Rattle.splitter.specs.declared.Outcome.{Outcome}
+
+-- "a refused call counts 0"
+abbrev pub IsRefused : ℕ → ℕ → Outcome → Type 0
+IsRefused k at r = r ≡ record { number = k; place = at; count = 0 }
+
+pub record Called (o : calls.Outcome) (r : Outcome) (old new : List ℕ) : Type 0 where
+  pub number : r .number ≡ o .number
+  pub place : r .place ≡ o .place
+  pub count : r .count ≡ calls.count o
+  -- the bytes written, and after them the old ones
+  pub area : new ≡ calls.areaAfter o old
+
+-- "on a refusal all the old ones"
+pub called-refused : {o : calls.Outcome} {k at : ℕ} {r : Outcome} {area : List ℕ} → o ≡ calls.refused k at → IsRefused k at r → Called o r area area
+called-refused {o} {k} {at} {r} {area} e h = record {
+  number = ap (λ (a : Outcome). a .number) h ∙ sym (ap (λ (a : calls.Outcome). a .number) e);
+  place = ap (λ (a : Outcome). a .place) h ∙ sym (ap (λ (a : calls.Outcome). a .place) e);
+  count = ap (λ (a : Outcome). a .count) h ∙ sym (ap calls.count e);
+  area = sym (ap (λ (a : calls.Outcome). calls.areaAfter a area) e);
+}
+
+pub called-wrote : {o : calls.Outcome} {bytes : List ℕ} {count : ℕ} {old new : List ℕ} → o ≡ calls.success bytes → Wrote old new 0 bytes count
+    → Called o (record { number = 0; place = 0; count = count }) old new
+called-wrote {old = old} e w = record {
+  number = sym (ap (λ (a : calls.Outcome). a .number) e);
+  place = sym (ap (λ (a : calls.Outcome). a .place) e);
+  count = wrote-from-start w .0 ∙ sym (ap calls.count e);
+  area = wrote-from-start w .1 ∙ sym (ap (λ (a : calls.Outcome). calls.areaAfter a old) e);
+}
+
+-- ---- the call that splits a sheet
+
+pub split-short : (area : ℕ) (bytes : List ℕ) → area < 384 → calls.splitCall area bytes ≡ calls.refused 1 0
+unfolding calls.splitCall
+split-short area bytes l = rw (lt-ltb area answerArea l)
+
+module _ (area : ℕ) (bytes : List ℕ) (l : 384 ≤ area) where
+  pub split-refused : {k at : ℕ} → readSheet bytes ≡ fault k at → calls.splitCall area bytes ≡ calls.refused k at
+  unfolding calls.splitCall calls.answerTo
+  split-refused e = rw (le-ltb area answerArea l, e)
+
+  pub split-answered : {s : Sheet} → readSheet bytes ≡ accepted s → calls.splitCall area bytes ≡ calls.success (answer s)
+  unfolding calls.splitCall calls.answerTo
+  split-answered e = rw (le-ltb area answerArea l, e)
+
+-- ---- the sheet of a polynomial in an array
+
+module _ {p : ℕ} {f : List ℕ} {d : ℕ} (m : Monics p f d) where
+  pub listed-degree : degree (listed d f) ≡ d
+  listed-degree = omega (arith, length-take-le (suc d) f (omega (arith, m .reduced .len, m .fits)))
+
+  pub good-sheet : GoodSheet (sheetOf p (listed d f))
+  good-sheet = record {
+    prime = rw (m .prime) tt;
+    monic = to-claims (m .positive) (listed-monic (square-large p (is-prime p (m .prime) .large)) (record { fits = m .fits; reduced = m .reduced; monic = m .monic }));
+    fits = omega (arith, listed-degree, m .fits);
+  }

@@ -1,0 +1,3 @@
+pub mod Area
+pub mod Turns
+pub mod Coefficients
