@@ -6,10 +6,10 @@ use Rattle.arithmetic_vectors.proofs.main.Statement.{statement}
 use Rattle.arithmetic_vectors.proofs.main.Tie as tie
 
 abbrev Inv-loop : tie.InvT-loop
-Inv-loop cases₀ t4 t5 cases = cases ≤ 65535
+Inv-loop cases₀ cases = cases ≤ 65535
 
 abbrev μ-loop : tie.MeasureT-loop
-μ-loop cases₀ t4 t5 cases = 65535 - cases
+μ-loop cases₀ cases = 65535 - cases
 
 pub main-spec : {M : Type 1} → statement M
 main-spec =
@@ -18,6 +18,10 @@ main-spec =
     (λ c. search needs)  -- loop-holds
     (λ c. search needs)  -- slice-aggregate-read-full
     (λ c κs. search needs)  -- read-full-requires
+    (λ c. search needs)  -- slice-aggregate-read-full-2
+    (λ c κs. search needs)  -- read-full-requires-2
+    (λ c. search needs)  -- slice-aggregate-read-full-3
+    (λ c κs. search needs)  -- read-full-requires-3
     (λ c. search needs)  -- array-read-work
     (λ c κs. search needs)  -- record-requires
     (λ c κs. search needs)  -- record-requires-2
@@ -25,10 +29,6 @@ main-spec =
     (λ c. search needs)  -- add-cases
     (λ c. search needs)  -- loop-less
     (λ c. search needs)  -- loop-again
-    (λ c. search needs)  -- slice-aggregate-write-all
-    (λ c κs. search needs)  -- write-all-requires
-    (λ c. search needs)  -- cast-print-decimal
-    (λ c κs. search needs)  -- print-decimal-requires
-    (λ c. search needs)  -- slice-aggregate-write-all-2
-    (λ c κs. search needs)  -- write-all-requires-2
+    (λ c. search needs)  -- cast-print-cases
+    (λ c κs. search needs)  -- print-cases-requires
     (λ c. search needs))  -- returns

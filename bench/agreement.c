@@ -1,0 +1,65 @@
+/* Compares an answer's parts with what FLINT finds modulo p. */
+#include "bench.h"
+
+enum { PART = 0x11, FACTOR = 0x12, COEFFICIENT = 0x03, SOLID = 2 };
+
+void make_bar(nmod_poly_t bar, const polynomial *f)
+{
+    nmod_poly_init(bar, f->prime);
+    for (unsigned i = 0; i <= DEGREE; i++)
+        nmod_poly_set_coeff_ui(bar, i, f->coefs[i] % f->prime);
+}
+
+/* The bar of the factor whose command stands at `at`. */
+static void read_bar(nmod_poly_t bar, const uint8_t *at, unsigned prime)
+{
+    nmod_poly_zero(bar);
+    nmod_poly_set_coeff_ui(bar, at[1], 1);
+    for (at += 3; *at == COEFFICIENT; at += 3)
+        nmod_poly_set_coeff_ui(bar, at[1], at[2] % prime);
+}
+
+/* Whether G to the m is among the factors, for the part at `at`. A solid part's factor has the bar G^m, every other part's first one G.
+   The factor that is found is struck out. */
+static int strike_out(nmod_poly_factor_t factors, const uint8_t *at, unsigned prime)
+{
+    nmod_poly_t bar, power;
+    int found = 0;
+    nmod_poly_init(bar, prime);
+    nmod_poly_init(power, prime);
+    read_bar(bar, at + 4, prime);
+    for (slong i = 0; i < factors->num && !found; i++) {
+        nmod_poly_pow(power, factors->p + i, at[3] == SOLID ? at[2] : 1);
+        found = factors->exp[i] == at[2] && nmod_poly_degree(factors->p + i) == at[1] && nmod_poly_equal(power, bar);
+        if (found)
+            factors->exp[i] = 0;
+    }
+    nmod_poly_clear(bar);
+    nmod_poly_clear(power);
+    return found;
+}
+
+static size_t command_length(uint8_t command)
+{
+    return command == PART || command == 0x13 ? 4 : command == FACTOR || command == COEFFICIENT ? 3 : command == 0x0F ? 1 : 2;
+}
+
+int agrees(const polynomial *f, const uint8_t *answer, size_t length)
+{
+    nmod_poly_t bar;
+    nmod_poly_factor_t factors;
+    slong parts = 0;
+    int all = 1;
+    make_bar(bar, f);
+    nmod_poly_factor_init(factors);
+    nmod_poly_factor(factors, bar);
+    for (size_t place = 0; place < length; place += command_length(answer[place]))
+        if (answer[place] == PART) {
+            parts++;
+            all = all && strike_out(factors, answer + place, f->prime);
+        }
+    all = all && parts == factors->num;
+    nmod_poly_factor_clear(factors);
+    nmod_poly_clear(bar);
+    return all;
+}

@@ -1,0 +1,96 @@
+/* The polynomials of the benchmark, by a small generator with a fixed start (splitmix64). */
+#include <string.h>
+
+#include "bench.h"
+
+const unsigned primes[PRIMES] = {2, 7};
+const char *const kinds[KINDS] = {"random", "linear", "powers"};
+polynomial polynomials[PRIMES][KINDS][EACH];
+
+static uint64_t state = 20050101;
+
+static unsigned below(unsigned bound)
+{
+    uint64_t z = state += 0x9E3779B97F4A7C15u;
+    z = (z ^ (z >> 30)) * 0xBF58476D1CE4E5B9u;
+    z = (z ^ (z >> 27)) * 0x94D049BB133111EBu;
+    return (unsigned)((z ^ (z >> 31)) % bound);
+}
+
+/* A random monic polynomial of the degree d. */
+static void some_monic(unsigned *g, unsigned d, unsigned n)
+{
+    for (unsigned i = 0; i < d; i++)
+        g[i] = below(n);
+    g[d] = 1;
+}
+
+/* f, which is of degree *top, times the monic g of degree d. */
+static void multiply(unsigned *f, unsigned *top, const unsigned *g, unsigned d, unsigned n)
+{
+    unsigned product[DEGREE + 1] = {0};
+    for (unsigned i = 0; i <= *top; i++)
+        for (unsigned j = 0; j <= d; j++)
+            product[i + j] = (product[i + j] + f[i] * g[j]) % n;
+    *top += d;
+    memcpy(f, product, sizeof product);
+}
+
+/* Factors of degree 1 only. */
+static void make_linear(unsigned *f, unsigned n)
+{
+    unsigned top = 0, g[2];
+    f[0] = 1;
+    while (top < DEGREE) {
+        some_monic(g, 1, n);
+        multiply(f, &top, g, 1, n);
+    }
+}
+
+/* One to four powers: g to the k, of degrees that add to 32. */
+static void make_powers(unsigned *f, unsigned n)
+{
+    unsigned top = 0, g[DEGREE + 1], count = 1 + below(4);
+    f[0] = 1;
+    for (unsigned i = 1; i <= count; i++) {
+        unsigned room = i == count ? DEGREE - top : (DEGREE - top) / 2;
+        unsigned d = 1 + below(room < 8 ? room : 8), k = room / d;
+        some_monic(g, d, n);
+        for (unsigned j = 0; j < k; j++)
+            multiply(f, &top, g, d, n);
+    }
+    some_monic(g, DEGREE - top, n);
+    multiply(f, &top, g, DEGREE - top, n);
+}
+
+static void write_sheet(polynomial *f)
+{
+    uint8_t *at = f->sheet;
+    *at++ = 0x01, *at++ = (uint8_t)f->prime, *at++ = 0x02, *at++ = DEGREE;
+    for (unsigned i = 0; i < DEGREE; i++)
+        if (f->coefs[i] != 0)
+            *at++ = 0x03, *at++ = (uint8_t)i, *at++ = (uint8_t)f->coefs[i];
+    *at++ = 0x0F;
+    f->sheet_length = (size_t)(at - f->sheet);
+}
+
+static void make(polynomial *f, unsigned prime, unsigned kind)
+{
+    unsigned n = prime * prime;
+    f->prime = prime;
+    if (kind == 0)
+        some_monic(f->coefs, DEGREE, n);
+    else if (kind == 1)
+        make_linear(f->coefs, n);
+    else
+        make_powers(f->coefs, n);
+    write_sheet(f);
+}
+
+void make_polynomials(void)
+{
+    for (unsigned p = 0; p < PRIMES; p++)
+        for (unsigned kind = 0; kind < KINDS; kind++)
+            for (unsigned i = 0; i < EACH; i++)
+                make(&polynomials[p][kind][i], primes[p], kind);
+}

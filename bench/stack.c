@@ -1,0 +1,47 @@
+/* How much stack the library touches: its calls run on a thread whose stack was painted before. What lies above the caller's frame, the
+   thread's own records, does not count. */
+#include <pthread.h>
+#include <stdlib.h>
+#include <string.h>
+
+#include "bench.h"
+
+#define STACK (256 * 1024)
+#define PAINT 0xA5
+
+static uint8_t answers[2][KUZHMADER_AREA];
+static uintptr_t caller;
+
+static void *split_all(void *argument)
+{
+    uint8_t here;
+    caller = (uintptr_t)&here;
+    polynomial *f = &polynomials[0][0][0];
+    for (size_t i = 0; i < PRIMES * KINDS * EACH; i++) {
+        kuzhmader_outcome split = kuzhmader_split(f[i].sheet, f[i].sheet_length, answers[0], KUZHMADER_AREA);
+        kuzhmader_read(answers[0], split.count, answers[1], KUZHMADER_AREA);
+    }
+    return argument;
+}
+
+/* The stack grows down: what is not painted any more, from the lowest changed byte up to the caller's frame. */
+size_t stack_used(void)
+{
+    pthread_t thread;
+    pthread_attr_t attributes;
+    size_t untouched = 0;
+    uint8_t *stack = aligned_alloc(4096, STACK);
+    if (stack == NULL)
+        abort();
+    memset(stack, PAINT, STACK);
+    pthread_attr_init(&attributes);
+    if (pthread_attr_setstack(&attributes, stack, STACK) != 0 || pthread_create(&thread, &attributes, split_all, NULL) != 0)
+        abort();
+    pthread_join(thread, NULL);
+    while (untouched < STACK && stack[untouched] == PAINT)
+        untouched++;
+    size_t used = caller - (uintptr_t)(stack + untouched);
+    pthread_attr_destroy(&attributes);
+    free(stack);
+    return used;
+}

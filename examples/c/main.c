@@ -1,0 +1,52 @@
+/* Splits document 01's example, x³ + 6x² + 4 modulo 9, prints the answer as the program `split` does, and reads the answer back. */
+#include <stdio.h>
+#include <string.h>
+
+#include "kuzhmader.h"
+
+static const uint8_t sheet[] = {0x01, 3, 0x02, 3, 0x03, 0, 4, 0x03, 2, 6, 0x0F};
+
+static const char *const verdicts[] = {"", "basic", "solid", "power", "split"};
+
+/* Prints the factor whose command stands at `at`, and gives the place after its coefficients. */
+static const uint8_t *print_factor(const uint8_t *at)
+{
+    unsigned degree = at[1], coefs[KUZHMADER_LIMIT] = {0};
+    printf("factor %u", at[2]);
+    for (at += 3; *at == 0x03; at += 3)
+        coefs[at[1]] = at[2];
+    for (unsigned i = 0; i < degree; i++)
+        printf(" %u", coefs[i]);
+    printf(" 1\n");
+    return at;
+}
+
+static void print_answer(const uint8_t *at)
+{
+    printf("prime %u degree %u\n", at[1], at[3]);
+    at += 4;
+    while (*at != 0x13)
+        if (*at == 0x11) {
+            printf("part %u %u %s\n", at[1], at[2], verdicts[at[3]]);
+            at += 4;
+        } else
+            at = print_factor(at);
+    printf("total %u different %u free %u\n", at[1], at[2], at[3]);
+}
+
+int main(void)
+{
+    uint8_t answer[KUZHMADER_AREA], back[KUZHMADER_AREA];
+    kuzhmader_outcome split = kuzhmader_split(sheet, sizeof sheet, answer, sizeof answer);
+    if (split.number != KUZHMADER_DONE) {
+        printf("refused %u at %zu\n", split.number, split.place);
+        return 1;
+    }
+    print_answer(answer);
+    kuzhmader_outcome read = kuzhmader_read(answer, split.count, back, sizeof back);
+    if (read.count != sizeof sheet || memcmp(back, sheet, sizeof sheet) != 0) {
+        printf("the answer does not lead back to the sheet\n");
+        return 1;
+    }
+    return 0;
+}

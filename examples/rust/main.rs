@@ -1,0 +1,67 @@
+//! Splits document 01's example, x³ + 6x² + 4 modulo 9, prints the answer as the program `split` does, and reads the answer back.
+//! `split` and `read` here are safe: a slice is never null, and two slices of which one may be changed never overlap.
+
+/// Number, place and count, as in include/kuzhmader.h.
+#[repr(C)]
+struct Outcome {
+    number: u8,
+    place: usize,
+    count: usize,
+}
+
+/// The least length of an answer area.
+const AREA: usize = 384;
+
+extern "C" {
+    fn kuzhmader_split(sheet: *const u8, sheet_length: usize, area: *mut u8, area_length: usize) -> Outcome;
+    fn kuzhmader_read(answer: *const u8, answer_length: usize, area: *mut u8, area_length: usize) -> Outcome;
+}
+
+/// From a sheet to its answer.
+fn split(sheet: &[u8], area: &mut [u8]) -> Outcome {
+    unsafe { kuzhmader_split(sheet.as_ptr(), sheet.len(), area.as_mut_ptr(), area.len()) }
+}
+
+/// From an answer back to its sheet.
+fn read(answer: &[u8], area: &mut [u8]) -> Outcome {
+    unsafe { kuzhmader_read(answer.as_ptr(), answer.len(), area.as_mut_ptr(), area.len()) }
+}
+
+const SHEET: [u8; 11] = [0x01, 3, 0x02, 3, 0x03, 0, 4, 0x03, 2, 6, 0x0F];
+const VERDICTS: [&str; 5] = ["", "basic", "solid", "power", "split"];
+
+/// Prints the factor that the answer begins with, and gives what follows its coefficients.
+fn print_factor(answer: &[u8]) -> &[u8] {
+    let mut coefs = vec![0; answer[1] as usize];
+    let mut rest = &answer[3..];
+    while rest[0] == 0x03 {
+        coefs[rest[1] as usize] = rest[2];
+        rest = &rest[3..];
+    }
+    let listed: String = coefs.iter().map(|c| format!(" {c}")).collect();
+    println!("factor {}{listed} 1", answer[2]);
+    rest
+}
+
+fn print_answer(answer: &[u8]) {
+    println!("prime {} degree {}", answer[1], answer[3]);
+    let mut rest = &answer[4..];
+    while rest[0] != 0x13 {
+        if rest[0] == 0x11 {
+            println!("part {} {} {}", rest[1], rest[2], VERDICTS[rest[3] as usize]);
+            rest = &rest[4..];
+        } else {
+            rest = print_factor(rest);
+        }
+    }
+    println!("total {} different {} free {}", rest[1], rest[2], rest[3]);
+}
+
+fn main() {
+    let (mut answer, mut back) = ([0; AREA], [0; AREA]);
+    let outcome = split(&SHEET, &mut answer);
+    assert_eq!((outcome.number, outcome.place), (0, 0), "the sheet is refused");
+    print_answer(&answer[..outcome.count]);
+    let outcome = read(&answer[..outcome.count], &mut back);
+    assert_eq!(&back[..outcome.count], &SHEET, "the answer does not lead back to the sheet");
+}

@@ -1,0 +1,61 @@
+/* The pattern splitter's C interface: factor lists modulo the square of a prime. Link with target/staticlib/libsplitter.a, which
+ * `rt staticlib splitter` writes. Sheets, answers, numbers and places are those of document 01.
+ *
+ * Rules for both calls:
+ * - The first two arguments are lent to be read and are never changed. The last two are the answer area.
+ * - The two areas must not overlap, not in one byte; nobody else may write to either while the call runs.
+ * - A pointer must not be null, not even with length 0: lend any one byte and the length 0. A length is that of memory which really is
+ *   there, and at most PTRDIFF_MAX.
+ * - On success `number` is KUZHMADER_DONE, `place` is 0, and the first `count` bytes of the area are the result. On a refusal `number` says
+ *   why, `place` says where in the input (counted from 0), and `count` is 0. Bytes of the area from `count` on keep their values.
+ * - The calls keep nothing between them, take no memory from the heap, and may run in several threads at once.
+ */
+#ifndef KUZHMADER_H
+#define KUZHMADER_H
+
+#include <stddef.h>
+#include <stdint.h>
+
+#ifdef __cplusplus
+extern "C" {
+#endif
+
+/* The least length of an answer area, and the largest degree. */
+#define KUZHMADER_AREA 384
+#define KUZHMADER_LIMIT 32
+
+/* Document 01's numbers. `kuzhmader_split` gives 0 to 8, `kuzhmader_read` gives 0, 1 and 9; 10 to 13 belong to the arithmetic. */
+enum kuzhmader_number {
+    KUZHMADER_DONE = 0,
+    KUZHMADER_AREA_TOO_SHORT = 1,     /* the answer area is shorter than 384 bytes; place 0 */
+    KUZHMADER_SHEET_ENDS = 2,         /* the sheet ends where a command or operand is due; the place is its length */
+    KUZHMADER_NO_COMMAND = 3,         /* a byte at a command's place is not a command allowed there */
+    KUZHMADER_NO_PRIME = 4,           /* the prime is not 2, 3, 5 or 7 */
+    KUZHMADER_DEGREE = 5,             /* the degree is 0 or above 32 */
+    KUZHMADER_INDEX = 6,              /* a coefficient's index is not below the degree, or not above the one before it */
+    KUZHMADER_VALUE = 7,              /* a coefficient's value is 0, or p² or more */
+    KUZHMADER_PAST_THE_END = 8,       /* a byte follows the end command */
+    KUZHMADER_NO_ANSWER = 9,          /* what the answer reader is given is not the answer to any sheet; place 0 */
+    KUZHMADER_NOT_PROPER = 10,        /* a record handed to the arithmetic is not proper */
+    KUZHMADER_PRIMES_DIFFER = 11,     /* the two records' primes differ */
+    KUZHMADER_PRODUCT_TOO_HIGH = 12,  /* neither factor of a product is zero and their degrees add to more than 32 */
+    KUZHMADER_DIVISOR_NOT_MONIC = 13  /* the divisor is not monic */
+};
+
+typedef struct {
+    uint8_t number;
+    size_t place;
+    size_t count;
+} kuzhmader_outcome;
+
+/* From a sheet to its answer. */
+kuzhmader_outcome kuzhmader_split(const uint8_t *sheet, size_t sheet_length, uint8_t *area, size_t area_length);
+
+/* From an answer back to its sheet. */
+kuzhmader_outcome kuzhmader_read(const uint8_t *answer, size_t answer_length, uint8_t *area, size_t area_length);
+
+#ifdef __cplusplus
+}
+#endif
+
+#endif

@@ -1,0 +1,44 @@
+"""Writes stored cases of the calls on bytes, and what the reference gives for them.
+
+stdin   for each case its length and the length of the answer area, two bytes each, low byte first, then its bytes
+stdout  one line for each case, `number place count`, and the bytes written in hexadecimal if there are any; then `cases N`
+"""
+
+import os
+import random
+from typing import Callable, Sequence
+
+from sheet_cases import Call
+from splitter import Outcome
+
+
+def cases_of(kind: Callable) -> list:
+    """The cases of one kind, each once. Each kind has its own source, seeded by its name, so that a new kind changes no other."""
+    return list(dict.fromkeys(kind(random.Random(kind.__name__))))
+
+
+def case_bytes(case: Call) -> bytes:
+    """The two lengths, then the bytes."""
+    return len(case.data).to_bytes(2, "little") + case.area.to_bytes(2, "little") + case.data
+
+
+def outcome_line(outcome: Outcome) -> str:
+    """Number, place and count in base ten, then the bytes written."""
+    line = "{} {} {}".format(outcome.number, outcome.place, outcome.count)
+    return line + (" " + outcome.area[: outcome.count].hex() if outcome.count else "")
+
+
+def write_vectors(folder: str, kinds: Sequence[Callable], call: Callable) -> None:
+    """Writes the two files and prints how many cases there are of each kind."""
+    cases = []
+    for kind in kinds:
+        of_kind = cases_of(kind)
+        print("{:5} {}".format(len(of_kind), kind.__name__))
+        cases += of_kind
+    os.makedirs(folder, exist_ok=True)
+    with open(os.path.join(folder, "stdin"), "wb") as out:
+        out.write(b"".join(map(case_bytes, cases)))
+    with open(os.path.join(folder, "stdout"), "w", encoding="ascii", newline="\n") as out:
+        out.writelines(outcome_line(call(case.data, bytes(case.area))) + "\n" for case in cases)
+        out.write("cases {}\n".format(len(cases)))
+    print("{:5} in all".format(len(cases)))
