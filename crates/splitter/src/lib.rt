@@ -1,16 +1,21 @@
-// The library's entry points on bytes: a sheet in and its answer out. Neither has a `requires`.
+// The library's entry points on bytes: a sheet in and its answer out; an answer in and its sheet out. None has a `requires`.
 // Each says of every outcome the number, the place, the count and every byte of the area; the bytes that are read are lent and stay as they are.
+ghost use mathlib.Core.Path.{_≡_};
 ghost use Prim.Native.Nat.{_≤_};
-ghost use lib.ListN.{length};
+ghost use lib.ListN.{length, take};
 ghost use Rattle.specification.specs.Sheets.{sheetOf};
 ghost use Rattle.specification.specs.Answers.{answer};
-ghost use Rattle.specification.specs.Calls.{splitCall};
+ghost use Rattle.specification.specs.Calls.{splitCall, readCall};
 ghost use Rattle.factors.specs.Cut.{Monics};
 ghost use Rattle.verdicts.specs.Given.{listed};
+ghost use Rattle.pieces.specs.Order.{Answers};
 ghost use Rattle.writing.specs.Area.{Wrote};
 ghost use Rattle.splitter.specs.Outcomes.{IsRefused, Called};
+use reading::Candidate;
+use reading::find_candidate;
 use sheets::SheetRead;
 use sheets::read_sheet;
+use writing::write_sheet;
 
 // "Success gives number 0, place 0 and the count of bytes written; a refused call counts 0."
 #[repr(C)]
@@ -60,10 +65,68 @@ pub fn split(sheet: &[u8], area: &mut [u8]) -> Outcome
     }
 }
 
+// The first `count` bytes of b are the bytes of a.
+fn same_bytes(a: &[u8], b: &[u8], count: usize) -> bool
+    requires { ⌜ count ≤ length (now b) ⌝ }
+    ensures { λ r. ⌜ Answers r (now (a .entry) ≡ take count (now (b .entry))) ⌝ }
+{
+    if a.len() != count {
+        return false;
+    }
+    let mut i: usize = 0;
+    while i < count {
+        if a[i] != b[i] {
+            return false;
+        }
+        i += 1;
+    }
+    true
+}
+
+// The bytes are the answer to the sheet of p and f, of degree d.
+fn is_answer(bytes: &[u8], p: u8, d: usize, f: [u16; 33]) -> bool
+    requires { ⌜ Monics p f d ⌝ }
+    ensures { λ r. ⌜ Answers r (now (bytes .entry) ≡ answer (sheetOf p (listed d f))) ⌝ }
+{
+    let mut own = [0u8; 384];
+    let count = answer_to(&mut own, p, d, f);
+    same_bytes(bytes, &own, count)
+}
+
+// The sheet of an answer, written into the area.
+pub fn read(bytes: &[u8], area: &mut [u8]) -> Outcome
+    ensures { λ r. ⌜ Called (readCall (length (now (area .entry))) (now (bytes .entry))) r (now (area .entry)) (now (area .exit)) ⌝ }
+{
+    if area.len() < 384 {
+        return refused(1, 0);
+    }
+    let c = find_candidate(bytes);
+    if c.found {
+        let f = c.coefs;
+        if is_answer(bytes, c.prime, c.degree, f) {
+            let count = write_sheet(area, c.prime, c.degree, f);
+            return Outcome {
+                number: 0,
+                place: 0,
+                count: count,
+            };
+        }
+    }
+    refused(9, 0)
+}
+
 // `split` for C: each slice is a pointer and a length.
 #[no_mangle]
 pub extern "C" fn kuzhmader_split(sheet: &[u8], area: &mut [u8]) -> Outcome
     ensures { λ r. ⌜ Called (splitCall (length (now (area .entry))) (now (sheet .entry))) r (now (area .entry)) (now (area .exit)) ⌝ }
 {
     split(sheet, area)
+}
+
+// `read` for C.
+#[no_mangle]
+pub extern "C" fn kuzhmader_read(bytes: &[u8], area: &mut [u8]) -> Outcome
+    ensures { λ r. ⌜ Called (readCall (length (now (area .entry))) (now (bytes .entry))) r (now (area .entry)) (now (area .exit)) ⌝ }
+{
+    read(bytes, area)
 }

@@ -1,0 +1,10 @@
+pub mod Items
+pub mod Found
+pub mod Bytes
+pub mod WrittenCoefficients
+pub mod ReadingCoefficients
+pub mod Growing
+pub mod Multiplying
+pub mod ReadingItems
+pub mod AnswerItems
+pub mod Candidates
