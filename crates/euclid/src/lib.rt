@@ -1,19 +1,18 @@
-// Euclid's algorithm on polynomials over ℤ/p, for a taken prime p, on arrays of 33 coefficients: the monic
-// multiple, and the monic gcd with one cofactor. All is public for the crates above, and no entry point of the library.
-ghost use mathlib.Core.Path.{_≡_};
-ghost use mathlib.Core.Bool.{true};
+// Euclid's algorithm on polynomials over ℤ/p, p a prime, on arrays of 33 coefficients: the monic multiple, the monic gcd, and the
+// monic gcd with one cofactor. All is public for the crates above, and no entry point of the library.
 ghost use Prim.Native.Nat.{_<_, _≤_};
-ghost use Rattle.specification.specs.Limits.{taken};
 ghost use Rattle.algebra.specs.Residues.{residue};
 ghost use Rattle.algebra.specs.Polynomials.{_·_, constant};
 ghost use Rattle.algebra.specs.Degree.{Below, Monic};
+ghost use Rattle.algebra.specs.Fields.{Prime};
 ghost use Rattle.algebra.specs.CoefficientLists.{poly, Reduced};
 ghost use Rattle.modular.specs.Coefficients.{Represents, Size};
 ghost use Rattle.euclid.specs.MonicMultiples.{MonicMultipleOf};
 ghost use Rattle.euclid.specs.Rows.{ReducedRow, MonicRow, Formed};
 ghost use Rattle.euclid.specs.DividedRow.{Operands, DividedRow};
 ghost use Rattle.euclid.specs.Next.{NextOf};
-ghost use Rattle.euclid.specs.CommonDivisors.{GcdOf};
+ghost use Rattle.euclid.specs.CommonDivisors.{GcdOf, CofactorOf};
+ghost use Rattle.euclid.specs.Remainders.{Successive, After};
 
 // unit·a, which is monic.
 pub struct MonicMultiple {
@@ -35,6 +34,20 @@ struct Rows {
     size: usize,
 }
 
+// Two successive remainders without their cofactors: the former is monic of the degree given, the latter has the size given.
+struct Remainders {
+    former: [u16; 33],
+    degree: usize,
+    latter: [u16; 33],
+    size: usize,
+}
+
+// The gcd of a and b, and its degree.
+pub struct Greatest {
+    pub gcd: [u16; 33],
+    pub degree: usize,
+}
+
 // The gcd of a and b, its degree, and the cofactor of a: cofactor·a leaves the gcd modulo b.
 pub struct CommonDivisor {
     pub gcd: [u16; 33],
@@ -53,7 +66,7 @@ fn multiple(c: u16, a: [u16; 33], s: usize, p: u16) -> [u16; 33]
 
 // The monic multiple of a, which is not 0 and has the size s.
 pub fn monic_multiple(a: [u16; 33], s: usize, p: u16) -> MonicMultiple
-    requires { ⌜ (taken p ≡ true) × Reduced p 33 a × Size a s × (0 < s) ⌝ }
+    requires { ⌜ Prime p × Reduced p 33 a × Size a s × (0 < s) ⌝ }
     ensures { λ r. ⌜ MonicMultipleOf p a s (r .array) (r .unit) ⌝ }
 {
     let unit = modular::inverse(a[s - 1], p);
@@ -66,7 +79,7 @@ pub fn monic_multiple(a: [u16; 33], s: usize, p: u16) -> MonicMultiple
 
 // A row made monic, where its remainder is not 0 and has the size s.
 fn monic_row(r: Row, s: usize, d: usize, p: u16) -> Row
-    requires { ⌜ (taken p ≡ true) × (0 < s) × (d < 33) × ReducedRow p d r × Size (r .remainder) s ⌝ }
+    requires { ⌜ Prime p × (0 < s) × (d < 33) × ReducedRow p d r × Size (r .remainder) s ⌝ }
     ensures { λ f. ⌜ MonicRow p d s r f ⌝ }
 {
     let a = r.remainder;
@@ -102,7 +115,7 @@ fn divide_row(r: Row, s: usize, f: Row, e: usize, b: [u16; 33], d: usize, p: u16
 
 // One division of Euclid's algorithm: the latter remainder is made monic and divides the former.
 fn next(w: Rows, b: [u16; 33], d: usize, p: u16) -> Rows
-    requires { ⌜ (taken p ≡ true) × (d < 33) × Monic d (poly p b) × Formed p d w × (0 < w .size) ⌝ }
+    requires { ⌜ Prime p × (d < 33) × Monic d (poly p b) × Formed p d w × (0 < w .size) ⌝ }
     ensures { λ r. ⌜ NextOf p b d w r ⌝ }
 {
     let e = w.size - 1;
@@ -117,10 +130,51 @@ fn next(w: Rows, b: [u16; 33], d: usize, p: u16) -> Rows
     }
 }
 
+// The remainder that comes after the two, where the latter is not 0.
+fn next_remainder(w: Remainders, p: u16) -> Remainders
+    requires { ⌜ Prime p × Successive p w × (0 < w .size) ⌝ }
+    ensures { λ r. ⌜ After p w r ⌝ }
+{
+    let e = w.size - 1;
+    let a = w.former;
+    let b = w.latter;
+    let m = monic_multiple(b, w.size, p);
+    let f = m.array;
+    let r = quotients::remainder(a, w.degree + 1, f, e, p);
+    Remainders {
+        former: f,
+        degree: e,
+        latter: r,
+        size: modular::size(r),
+    }
+}
+
 // The monic gcd of a and b, where b is monic of degree d and a has d terms: the last remainder that is not 0.
+pub fn common_divisor(a: [u16; 33], b: [u16; 33], d: usize, p: u16) -> Greatest
+    requires { ⌜ Prime p × (d < 33) × Reduced p 33 a × Reduced p 33 b × Below d (poly p a) × Monic d (poly p b) ⌝ }
+    ensures { λ r. ⌜ GcdOf p a b d (r .gcd) (r .degree) ⌝ }
+{
+    let mut t = Remainders {
+        former: b,
+        degree: d,
+        latter: a,
+        size: modular::size(a),
+    };
+    while 0 < t.size {
+        let v = next_remainder(t, p);
+        t = v;
+    }
+    let g = t.former;
+    Greatest {
+        gcd: g,
+        degree: t.degree,
+    }
+}
+
+// The monic gcd of a and b with the cofactor of a, under the same conditions.
 pub fn gcd(a: [u16; 33], b: [u16; 33], d: usize, p: u16) -> CommonDivisor
-    requires { ⌜ (taken p ≡ true) × (0 < d) × (d < 33) × Reduced p 33 a × Reduced p 33 b × Below d (poly p a) × Monic d (poly p b) ⌝ }
-    ensures { λ r. ⌜ GcdOf p a b d (r .gcd) (r .degree) (r .cofactor) ⌝ }
+    requires { ⌜ Prime p × (0 < d) × (d < 33) × Reduced p 33 a × Reduced p 33 b × Below d (poly p a) × Monic d (poly p b) ⌝ }
+    ensures { λ r. ⌜ GcdOf p a b d (r .gcd) (r .degree) × CofactorOf p a b d (r .gcd) (r .cofactor) ⌝ }
 {
     let zero = [0u16; 33];
     let mut one = [0u16; 33];

@@ -61,7 +61,7 @@ module _ {p : ℕ} {f : List ℕ} {d : ℕ} (M : Monics p f d) where
 
     pub split-given : {v : List ℕ} → Reduced p 33 v → SplittingElement p d (poly p q) (poly p v) → Split p q d v
     split-given hv s = record {
-      prime = M .prime;
+      prime = is-prime (M .prime);
       fits = M .fits;
       reduced = hq .reduced;
       monic = bar-is-monic;

@@ -2,8 +2,8 @@
 -- Proves it of p and of products, that the map is linear, and that it is given by the images (x^q)^i of the x^i; so v^q − v is given by
 -- the images (x^q)^i − x^i. Assumes nothing.
 use mathlib.Core.Path.{_≡_, refl, sym, _∙_, ap, ap₂}
-use Prim.Native.Nat.{ℕ, zero, suc, _<_, _+_ as _+ℕ_, _*_ as _*ℕ_}
-use native.Mathlib.Nat.{mul-comm as mul-commℕ, mul-pos}
+use Prim.Native.Nat.{ℕ, zero, suc, _<_, _+_ as _+ℕ_}
+use native.Mathlib.Nat.{mul-comm as mul-commℕ}
 use native.Mathlib.Omega.{arith}
 use Rattle.algebra.specs.Ring.{CommRing, zero-mul}
 use Rattle.algebra.specs.Identities.{_⊗_, _≈_, solve}
@@ -78,15 +78,6 @@ module _ {p : ℕ} (P : Prime p) where
     keeps = fermat;
   }
 
-pub frobenius-times : {p q r : ℕ} → FrobeniusPower p q → FrobeniusPower p r → FrobeniusPower p (q *ℕ r)
-frobenius-times {p} {q} {r} F G = record {
-  positive = mul-pos (F .positive) (G .positive);
-  adds = λ a b.
-      pow-mul (PolyRing (Residues p)) (a + b) q r ∙ ap (λ c. c ^ q) (G .adds a b) ∙ F .adds (a ^ r) (b ^ r)
-      ∙ ap₂ _+_ (sym (pow-mul (PolyRing (Residues p)) a q r)) (sym (pow-mul (PolyRing (Residues p)) b q r));
-  keeps = λ c. pow-mul (Residues p) c q r ∙ ap (λ d. pow (Residues p) d q) (G .keeps c) ∙ F .keeps c;
-}
-
 module _ {p q : ℕ} (F : FrobeniusPower p q) where
   pub power-constant : (c : ℤ/ p) → constant c ^ q ≡ constant c
   power-constant c = sym (keeps-pow (constants (Residues p)) c q) ∙ ap constant (F .keeps c)
@@ -106,7 +97,7 @@ module _ {p q : ℕ} (F : FrobeniusPower p q) where
       ∙ ap (λ a. a ^ q) (sym (apply-suc x^ n v))
 
   -- v^q is v₀ + v₁·x^q + v₂·(x^q)² + ..
-  pub power-images : (n : ℕ) (v : Poly (Residues p)) → Below n v → apply (λ i. (x ^ q) ^ i) n v ≡ v ^ q
+  power-images : (n : ℕ) (v : Poly (Residues p)) → Below n v → apply (λ i. (x ^ q) ^ i) n v ≡ v ^ q
   power-images n v h = power-apply n v ∙ ap (λ a. a ^ q) (apply-monomials n v h)
 
   pub difference-images : (n : ℕ) (v : Poly (Residues p)) → Below n v → apply (λ i. (x ^ q) ^ i + - x^ i) n v ≡ v ^ q + - v

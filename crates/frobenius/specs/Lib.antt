@@ -11,3 +11,6 @@ pub mod SplittingElements
 pub mod Unsplit
 pub mod PrimaryPowers
 pub mod PowerDependencies
+pub mod Derivatives
+pub mod PowerRoots
+pub mod PowerBases

@@ -1,35 +1,20 @@
 -- Powers Q = G^m of one irreducible polynomial G.
--- Proves that G^m divides v^q, where q ≥ m, exactly if G divides v, so that G is the monic polynomial of least degree with a q-th power that
--- G^m divides; and that a monic polynomial over ℤ/p with no splitting element is such a power. Assumes nothing.
+-- Proves that m times the degree of G is that of Q, and that a monic polynomial over ℤ/p with no splitting element is such a power. Assumes nothing.
 use mathlib.Core.Path.{_≡_, sym, _∙_, ap}
 use mathlib.Core.Logic.{_≢_, ⊎-elim}
-use Prim.Native.Nat.{ℕ, zero, suc, _<_, _≤_, _+_ as _+ℕ_, _*_ as _*ℕ_}
-use native.Mathlib.Nat.{pos-of-ne-zero, mul-pos, le-mul-of-pos-right}
+use Prim.Native.Nat.{ℕ, zero, suc, _≤_, _+_ as _+ℕ_, _*_ as _*ℕ_}
+use native.Mathlib.Nat.{pos-of-ne-zero, mul-pos}
 use native.Mathlib.Omega.{arith}
-use Rattle.algebra.specs.Numbers.{lt-or-le}
 use Rattle.algebra.specs.Ring.{CommRing, mul-one}
-use Rattle.algebra.specs.Divisibility.{
-  _∣_,
-  Coprime,
-  pow,
-  pow-zero,
-  pow-one,
-  pow-divides,
-  divides-refl,
-  divides-trans,
-  divides-mul,
-  coprime-sym,
-  coprime-pow,
-}
+use Rattle.algebra.specs.Divisibility.{Coprime, pow, pow-zero, coprime-sym, coprime-pow}
 use Rattle.algebra.specs.Residues.{Residues}
-use Rattle.algebra.specs.Polynomials.{Poly, PolyRing, _·_, 𝟎}
-use Rattle.algebra.specs.Degree.{Below, Monic, below-up, monic-zero, monic-pow}
+use Rattle.algebra.specs.Polynomials.{Poly, PolyRing, _·_}
+use Rattle.algebra.specs.Degree.{Monic, monic-zero, monic-pow}
 use Rattle.algebra.specs.Leading.{monic-cofactor}
-use Rattle.algebra.specs.Fields.{Field, Prime, residue-field, residue-discrete}
+use Rattle.algebra.specs.Fields.{Prime, residue-field, residue-discrete}
 use Rattle.factorisation.specs.MonicDivisors.{monic-nonzero, monic-degree}
 use Rattle.factorisation.specs.Irreducible.{Irreducible, irreducible-prime}
-use Rattle.factorisation.specs.Multiplicity.{Multiplicity, coprime-not-divides, multiplicity}
-use Rattle.frobenius.specs.FrobeniusPowers.{pow-of-product}
+use Rattle.factorisation.specs.Multiplicity.{Multiplicity, multiplicity}
 use Rattle.factorisation.specs.IrreducibleDivisors.{IrreducibleDivisor, irreducible-divisor}
 use Rattle.frobenius.specs.Unsplit.{Unsplit, unsplit-indivisible}
 
@@ -45,46 +30,6 @@ module _ {R : Type 0} {𝓡 : CommRing R} where
   -- m·deg G = deg Q
   pub primary-degree : 𝓡 .𝟙 ≢ 𝓡 .𝟘 → {d : ℕ} {Q : Poly 𝓡} → Monic d Q → (S : PrimaryPower Q) → S .m *ℕ S .irreducible .degree ≡ d
   primary-degree nontrivial n S = monic-degree nontrivial (rw (S .multiplies) at (monic-pow (S .irreducible .monic) (S .m))) n
-
-  pub exponent-bound : 𝓡 .𝟙 ≢ 𝓡 .𝟘 → {d : ℕ} {Q : Poly 𝓡} → Monic d Q → (S : PrimaryPower Q) → S .m ≤ d
-  exponent-bound nontrivial n S = rw (primary-degree nontrivial n S) at (le-mul-of-pos-right (S .m) (S .irreducible .positive))
-
-  module _ (field : Field 𝓡) {Q : Poly 𝓡} (S : PrimaryPower Q) {q : ℕ} (large : S .m ≤ q) where
-    pub base-power : (v : Poly 𝓡) → _∣_ (PolyRing 𝓡) (S .G) v → _∣_ (PolyRing 𝓡) Q (pow (PolyRing 𝓡) v q)
-    base-power v (w, e) =
-        rw (← S .multiplies, ← e, pow-of-product (PolyRing 𝓡) w (S .G) q)
-        (divides-mul (PolyRing 𝓡) (pow (PolyRing 𝓡) w q) (pow-divides (PolyRing 𝓡) (S .G) large))
-
-    base-divides-Q : _∣_ (PolyRing 𝓡) (S .G) Q
-    base-divides-Q =
-        rw (← S .multiplies) (rw (pow-one (PolyRing 𝓡) (S .G)) at (pow-divides (PolyRing 𝓡) (S .G) (S .positive)))
-
-    pub power-base : (v : Poly 𝓡) → _∣_ (PolyRing 𝓡) Q (pow (PolyRing 𝓡) v q) → _∣_ (PolyRing 𝓡) (S .G) v
-    power-base v h = ⊎-elim (λ d. d) (λ c. absurd (none c)) (irreducible-prime field (S .irreducible) .test v)
-      where
-        none : Coprime (PolyRing 𝓡) (S .G) v → ⊥
-        none c =
-            coprime-not-divides (irreducible-prime field (S .irreducible)) (coprime-pow (PolyRing 𝓡) q c)
-            (divides-trans (PolyRing 𝓡) base-divides-Q h)
-
-    -- the monic polynomial of least degree with a q-th power that Q divides is G
-    pub least-base : {i : ℕ} {v : Poly 𝓡} → Monic i v → _∣_ (PolyRing 𝓡) Q (pow (PolyRing 𝓡) v q)
-        → ((w : Poly 𝓡) → Below i w → _∣_ (PolyRing 𝓡) Q (pow (PolyRing 𝓡) w q) → w ≡ 𝟎) → v ≡ S .G
-    least-base {i} {v} n h least = go (power-base v h)
-      where
-        lowest : i ≤ S .irreducible .degree
-        lowest = ⊎-elim (λ l. absurd (none l)) (λ l. l) (lt-or-le (S .irreducible .degree) i)
-          where
-            none : S .irreducible .degree < i → ⊥
-            none l =
-                monic-nonzero (field .one-ne-zero) (S .irreducible .monic)
-                (least (S .G) (below-up l (S .irreducible .monic .below)) (base-power (S .G) (divides-refl (PolyRing 𝓡) (S .G))))
-
-        go : _∣_ (PolyRing 𝓡) (S .G) v → v ≡ S .G
-        go (u, e) =
-            let (j, mu, s) = monic-cofactor (field .decide) (field .one-ne-zero) {d = i} u (S .G) (S .irreducible .monic) (rw e n) in
-            let z : j ≡ 0 = omega (arith, lowest) in
-            sym e ∙ ap (λ a. a · S .G) (monic-zero (rw z at mu)) ∙ (PolyRing 𝓡) .*-one (S .G)
 
 module _ {p : ℕ} (P : Prime p) {d : ℕ} {Q : Poly (Residues p)} (positive : 1 ≤ d) (monic : Monic d Q) (unsplit : Unsplit p d Q) where
   module _ (t : IrreducibleDivisor Q) (M : Multiplicity (PolyRing (Residues p)) (t .G) Q) where

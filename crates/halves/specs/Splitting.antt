@@ -1,7 +1,6 @@
 -- Coprime factors by a splitting element: `Split`, what is given, `HalvesOf`, what comes of it, and `Coprimes`, what the loop over the
 -- constants has seen. Proves that a gcd of degree 1 or more splits Q, and that one of the constants has such a gcd. Assumes nothing.
-use mathlib.Core.Path.{_≡_, sym, _∙_, ap, ap₂, subst}
-use mathlib.Core.Bool.{true}
+use mathlib.Core.Path.{_≡_, sym, _∙_, ap₂, subst}
 use mathlib.Core.List.{List, _∷_}
 use mathlib.Core.Logic.{_≢_, inl}
 use lib.ListN.{replicate}
@@ -9,10 +8,9 @@ use Prim.Native.Nat.{ℕ, _≤_, _<_, _-_, _+_ as _+ℕ_}
 use native.Mathlib.Nat.{pos-of-ne-zero}
 use native.Mathlib.Decide.{ℕ-discrete}
 use native.Mathlib.Omega.{arith}
-use Rattle.specification.specs.Limits.{taken}
-use Rattle.algebra.specs.Ring.{CommRing, add-zero, linear1}
+use Rattle.algebra.specs.Ring.{CommRing, add-zero}
 use Rattle.algebra.specs.Identities.{con, _⊕_, _⊖_, _⊗_, ⊝_, _≈_, solve}
-use Rattle.algebra.specs.Divisibility.{_∣_, Coprime}
+use Rattle.algebra.specs.Divisibility.{Coprime, divides-mul, divides-add}
 use Rattle.algebra.specs.Residues.{ℤ/, residue, Residues, residue-value, value-below}
 use Rattle.algebra.specs.Polynomials.{PolyRing, _+_, _·_, -_, 𝟎, 𝟏, constant, constant-zero}
 use Rattle.algebra.specs.Monomials.{x^, shift-zero}
@@ -21,16 +19,15 @@ use Rattle.algebra.specs.Division.{divided-unique}
 use Rattle.algebra.specs.Fields.{Prime, prime-pos, residue-field, residue-nontrivial}
 use Rattle.algebra.specs.Bezout.{MonicBezout, bezout-monic}
 use Rattle.algebra.specs.CoefficientLists.{ℤ[x]/, poly, Reduced}
-use Rattle.factorisation.specs.MonicDivisors.{divisor-degree, monic-degree, monic-nonzero}
+use Rattle.factorisation.specs.MonicDivisors.{monic-antisym, monic-degree, monic-nonzero}
 use Rattle.frobenius.specs.SplittingElements.{CoprimeFactors, SplittingElement, splitting-constant, splitting-factors}
 use Rattle.modular.specs.Coefficients.{Represents, poly-unit, constant-residue-neg}
 use Rattle.modular.specs.Division.{DividedBy}
-use Rattle.euclid.specs.TakenPrimes as primes
-use Rattle.euclid.specs.CommonDivisors.{GcdOf, gcd-greatest}
+use Rattle.euclid.specs.CommonDivisors.{GcdOf}
 
 -- Q is monic of degree d, and v is a splitting element of it
 pub record Split (p : ℕ) (q : List ℕ) (d : ℕ) (v : List ℕ) : Type 0 where
-  pub prime : taken p ≡ true
+  pub prime : Prime p
   pub fits : d < 33
   pub reduced : Reduced p 33 q
   pub monic : Monic d (poly p q)
@@ -62,17 +59,14 @@ module _ {p : ℕ} {q v : List ℕ} {d : ℕ} (S : Split p q d v) where
   abbrev 𝓑 : CommRing (ℤ[x]/ p)
   𝓑 = PolyRing (Residues p)
 
-  pub is-prime : Prime p
-  is-prime = primes.is-prime (S .prime)
-
   nontrivial : (Residues p) .𝟙 ≢ (Residues p) .𝟘
-  nontrivial = residue-nontrivial (is-prime .large)
+  nontrivial = residue-nontrivial (S .prime .large)
 
   -- v − c
   abbrev pub less : ℕ → ℤ[x]/ p
   less c = poly p v + - constant (residue p c)
 
-  pub positive : 1 ≤ d
+  positive : 1 ≤ d
   positive =
       pos-of-ne-zero (λ e. S .splits .nonconstant ((Residues p) .𝟘)
       (below-zero (rw e at (S .splits .small)) ∙ sym (constant-zero (Residues p))))
@@ -80,30 +74,22 @@ module _ {p : ℕ} {q v : List ℕ} {d : ℕ} (S : Split p q d v) where
   pub less-small : (c : ℕ) → Below d (less c)
   less-small c = below-add (S .splits .small) (below-neg (below-up positive (below-constant (residue p c))))
 
-  module _ (c : ℕ) {w g u : List ℕ} {e : ℕ} (hw : Represents p w (less c)) (hg : GcdOf p w q d g e u) where
-    bezout : MonicBezout (residue-field p is-prime) (poly p q) (less c)
-    bezout = record {
-      degree = e;
-      combined = record {
-        gcd = poly p g;
-        u = - (hg .combination .0);
-        v = poly p u;
-        combination = linear1 𝓑 (- 𝟏) (hg .combination .1 ∙ ap (λ a. poly p u · a + - poly p g) (hw .is))
-            (solve 𝓑 5 (λ k q u w g. ⊝ k ⊗ q ⊕ u ⊗ w ⊖ g ≈ ⊝ con 1 ⊗ (k ⊗ q ⊖ (u ⊗ w ⊖ g))) tt
-            (hg .combination .0) (poly p q) (poly p u) (less c) (poly p g));
-        left = hg .right;
-        right = rw (hw .is) at (hg .left);
-      };
-      monic = hg .monic;
-    }
+  module _ (c : ℕ) {w g : List ℕ} {e : ℕ} (hw : Represents p w (less c)) (hg : GcdOf p w q d g e) where
+    -- g is the gcd that Bézout finds
+    same-gcd : (z : MonicBezout (residue-field p (S .prime)) (poly p q) (less c)) → z .combined .gcd ≡ poly p g
+    same-gcd z =
+        monic-antisym nontrivial (z .monic) (hg .monic) (hg .greatest (z .combined .gcd) (rw (hw .is) (z .combined .right)) (z .combined .left))
+        (rw (← z .combined .combination)
+        (divides-add 𝓑 (divides-mul 𝓑 (z .combined .u) (hg .right)) (divides-mul 𝓑 (z .combined .v) (rw (hw .is) at (hg .left)))))
 
     not-one : 0 < e → poly p g ≢ 𝟏
     not-one l k = omega (arith, monic-degree nontrivial (hg .monic) (subst (Monic 0) (sym k) monic-one))
 
     -- a gcd of degree 1 or more splits Q
     pub halves-of : {b r : List ℕ} → 0 < e → DividedBy p q g e b r → HalvesOf p q d g e b
-    unfolding bezout
-    halves-of {b} {r} l h = go (splitting-factors is-prime (S .monic) (S .splits) (residue p c) bezout (not-one l))
+    halves-of {b} {r} l h =
+        let z = bezout-monic (residue-field p (S .prime)) (poly p q) (less c) (inl (monic-nonzero nontrivial (S .monic))) in
+        go (rw (same-gcd z) at (splitting-factors (S .prime) (S .monic) (S .splits) (residue p c) z (rw (same-gcd z) (not-one l))))
       where
         go : (b′ : ℤ[x]/ p) × CoprimeFactors (poly p q) (poly p g) b′ → HalvesOf p q d g e b
         go (b′, F) = record {
@@ -133,29 +119,25 @@ module _ {p : ℕ} {q v : List ℕ} {d : ℕ} (S : Split p q d v) where
             degree = omega (arith, degrees, same-degree)
 
     -- a gcd of degree 0 is 1
-    pub coprime-at : e ≤ 0 → (z : MonicBezout (residue-field p is-prime) (poly p q) (less c)) → z .combined .gcd ≡ 𝟏
-    coprime-at l z =
-        monic-zero (rw (let k : z .degree ≡ 0 = omega (arith, divisor-degree nontrivial (z .monic) (hg .monic) divides) in k) at (z .monic))
-      where
-        divides : _∣_ 𝓑 (z .combined .gcd) (poly p g)
-        divides = gcd-greatest hg (z .combined .gcd) (rw (hw .is) (z .combined .right)) (z .combined .left)
+    pub coprime-at : e ≤ 0 → (z : MonicBezout (residue-field p (S .prime)) (poly p q) (less c)) → z .combined .gcd ≡ 𝟏
+    coprime-at l z = same-gcd z ∙ monic-zero (rw (let k : e ≡ 0 = omega arith in k) at (hg .monic))
 
   -- the gcd of Q and v − k is 1, for k below c
   abbrev pub Coprimes : ℕ → Type 0
-  Coprimes c = (k : ℕ) → k < c → (z : MonicBezout (residue-field p is-prime) (poly p q) (less k)) → z .combined .gcd ≡ 𝟏
+  Coprimes c = (k : ℕ) → k < c → (z : MonicBezout (residue-field p (S .prime)) (poly p q) (less k)) → z .combined .gcd ≡ 𝟏
 
-  pub coprimes-more : (c : ℕ) → Coprimes c → ((z : MonicBezout (residue-field p is-prime) (poly p q) (less c)) → z .combined .gcd ≡ 𝟏) → Coprimes (c +ℕ 1)
+  pub coprimes-more : (c : ℕ) → Coprimes c → ((z : MonicBezout (residue-field p (S .prime)) (poly p q) (less c)) → z .combined .gcd ≡ 𝟏) → Coprimes (c +ℕ 1)
   coprimes-more c h new k l = at (ℕ-discrete k c)
     where
-      at : Dec (k ≡ c) → (z : MonicBezout (residue-field p is-prime) (poly p q) (less k)) → z .combined .gcd ≡ 𝟏
+      at : Dec (k ≡ c) → (z : MonicBezout (residue-field p (S .prime)) (poly p q) (less k)) → z .combined .gcd ≡ 𝟏
       at (yes e) = rw e new
       at (no n) = h k (omega (arith, n))
 
   pub not-all : Coprimes p → ⊥
-  not-all h = go (splitting-constant is-prime (S .monic) (S .splits))
+  not-all h = go (splitting-constant (S .prime) (S .monic) (S .splits))
     where
-      go : (c : ℤ/ p) × ((z : MonicBezout (residue-field p is-prime) (poly p q) (poly p v + - constant c)) → z .combined .gcd ≢ 𝟏) → ⊥
+      go : (c : ℤ/ p) × ((z : MonicBezout (residue-field p (S .prime)) (poly p q) (poly p v + - constant c)) → z .combined .gcd ≢ 𝟏) → ⊥
       go (c, n) =
-          let z = bezout-monic (residue-field p is-prime) (poly p q) (poly p v + - constant c) (inl (monic-nonzero nontrivial (S .monic))) in
-          n z (subst (λ (k : ℤ/ p). (z : MonicBezout (residue-field p is-prime) (poly p q) (poly p v + - constant k)) → z .combined .gcd ≡ 𝟏)
-          (residue-value p c) (h (c .value) (value-below p (prime-pos is-prime) c)) z)
+          let z = bezout-monic (residue-field p (S .prime)) (poly p q) (poly p v + - constant c) (inl (monic-nonzero nontrivial (S .monic))) in
+          n z (subst (λ (k : ℤ/ p). (z : MonicBezout (residue-field p (S .prime)) (poly p q) (poly p v + - constant k)) → z .combined .gcd ≡ 𝟏)
+          (residue-value p c) (h (c .value) (value-below p (prime-pos (S .prime)) c)) z)

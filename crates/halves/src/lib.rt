@@ -1,9 +1,6 @@
 // Coprime factors of Q modulo p from a splitting element v: the gcd of Q and the first v - c that has a factor in common with Q, and what
 // it leaves of Q. All is public for the crates above, and no entry point of the library.
-ghost use mathlib.Core.Path.{_≡_};
-ghost use mathlib.Core.Bool.{true};
 ghost use Prim.Native.Nat.{_<_, _≤_};
-ghost use Rattle.specification.specs.Limits.{taken};
 ghost use Rattle.algebra.specs.Residues.{residue};
 ghost use Rattle.algebra.specs.Polynomials.{_+_, -_, constant};
 ghost use Rattle.algebra.specs.CoefficientLists.{poly, Reduced};
@@ -35,7 +32,7 @@ pub fn halve(q: [u16; 33], d: usize, v: [u16; 33], p: u16) -> Halves
     let mut c: u16 = 0;
     while c < p {
         let w = less_constant(v, c, p);
-        let g = euclid::gcd(w, q, d, p);
+        let g = euclid::common_divisor(w, q, d, p);
         if 0 < g.degree {
             let a = g.gcd;
             let t = modular::divide(q, d + 1, a, g.degree, p);

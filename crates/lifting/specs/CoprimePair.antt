@@ -17,7 +17,7 @@ use Rattle.algebra.specs.CoefficientLists.{ℤ[x]/, poly, Reduced}
 use Rattle.factorisation.specs.MonicDivisors.{divisor-degree}
 use Rattle.quotients.specs.Remainder.{Remainder}
 use Rattle.euclid.specs.TakenPrimes.{is-prime}
-use Rattle.euclid.specs.CommonDivisors.{GcdOf}
+use Rattle.euclid.specs.CommonDivisors.{GcdOf, CofactorOf}
 use Rattle.lifting.specs.Correction.{Inverse}
 
 pub record CoprimePair (p : ℕ) (a : List ℕ) (i : ℕ) (b : List ℕ) (j : ℕ) : Type 0 where
@@ -31,7 +31,8 @@ pub record CoprimePair (p : ℕ) (a : List ℕ) (i : ℕ) (b : List ℕ) (j : �
   pub monic-second : Monic j (poly p b)
   pub coprime : Coprime (PolyRing (Residues p)) (poly p a) (poly p b)
 
-module _ {p : ℕ} {a b : List ℕ} {i j : ℕ} (C : CoprimePair p a i b j) {r g u : List ℕ} {e : ℕ} (hr : Remainder p b j r (poly p a)) (hg : GcdOf p r b j g e u) where
+module _ {p : ℕ} {a b : List ℕ} {i j : ℕ} (C : CoprimePair p a i b j) {r g u : List ℕ} {e : ℕ} (hr : Remainder p b j r (poly p a))
+    (hg : GcdOf p r b j g e) (hu : CofactorOf p r b j g u) where
   abbrev 𝓑 : CommRing (ℤ[x]/ p)
   𝓑 = PolyRing (Residues p)
 
@@ -52,7 +53,7 @@ module _ {p : ℕ} {a b : List ℕ} {i j : ℕ} (C : CoprimePair p a i b j) {r g
 
   pub inverse-is : Inverse p a b j u
   inverse-is = record {
-    small = hg .small;
+    small = hu .small;
     inverts = congruent-trans 𝓑 (congruent-mul 𝓑 (congruent-equal 𝓑 refl) (congruent-sym 𝓑 (hr .congruent)))
-        (congruent-trans 𝓑 (hg .combination) (congruent-equal 𝓑 one));
+        (congruent-trans 𝓑 (hu .combination) (congruent-equal 𝓑 one));
   }

@@ -20,8 +20,8 @@ use Rattle.frobenius.specs.PrimaryPowers.{PrimaryPower, primary-degree, unsplit
 use Rattle.theorems.specs.Reductions.{coefficients, bar-poly}
 use Rattle.theorems.specs.Recognised.{Found, FoundOver, splitFound}
 use Rattle.modular.specs.Coefficients.{Represents}
-use Rattle.splitting.specs.declared.Base.{Base}
-use Rattle.splitting.specs.Bases.{BaseFound}
+use Rattle.bases.specs.declared.Base.{Base}
+use Rattle.bases.specs.Bases.{BaseFound}
 use Rattle.verdicts.specs.Given.{listed, Held, Given, is-prime}
 use Rattle.verdicts.specs.SplitByItems.{PartHeld, SplitByItems}
 use Rattle.verdicts.specs.Views.{asPart}

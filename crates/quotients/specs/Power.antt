@@ -1,9 +1,8 @@
--- The loops of `power_of_x` and `power_modulo`: after i turns r is the remainder of the i-th power.
--- Proves that the loops begin so, go on so, and end with the k-th power. Assumes nothing.
-use mathlib.Core.Path.{refl, sym, _∙_, ap, subst}
+-- Remainders of powers: a loop that multiplies by a in each turn has the remainder of a^i after i turns.
+-- Proves that such a loop begins so and goes on so. Assumes nothing.
+use mathlib.Core.Path.{refl, sym, _∙_, ap}
 use mathlib.Core.List.{List, _∷_}
-use Prim.Native.Nat.{ℕ, zero, suc, _<_, _≤_, _+_ as _+ℕ_}
-use native.Mathlib.Nat.{le-antisymm}
+use Prim.Native.Nat.{ℕ, zero, suc, _<_, _+_ as _+ℕ_}
 use native.Mathlib.Numerals.{add-one}
 use native.Mathlib.Omega.{arith}
 use lib.ListN.{getD, replicate, length-replicate}
@@ -40,7 +39,3 @@ module _ (n : ℕ) where
         rw (add-one, pow-suc (PolyRing (Residues n)) a i)
         (remainder-congruent n hv
         (congruent-mul (PolyRing (Residues n)) (congruent-equal (PolyRing (Residues n)) refl) (hr .congruent)))
-
-    pub power-done : {i k : ℕ} {r : List ℕ} → i ≤ k → k ≤ i → Remainder n q d r (pow (PolyRing (Residues n)) a i)
-        → Remainder n q d r (pow (PolyRing (Residues n)) a k)
-    power-done {r = r} l g h = subst (λ m. Remainder n q d r (pow (PolyRing (Residues n)) a m)) (le-antisymm l g) h

@@ -1,9 +1,7 @@
-// Arithmetic modulo a monic polynomial q of degree d over ℤ/n, on arrays of 33 coefficients: remainders, multiples by powers of x, products
-// and powers. Each answer is the one remainder of its polynomial by q; all is public for the crates above, and no entry point.
+// Arithmetic modulo a monic polynomial q of degree d over ℤ/n, on arrays of 33 coefficients: remainders, multiples by powers of x and products.
+// Each answer is the one remainder of its polynomial by q; all is public for the crates above, and no entry point.
 ghost use Prim.Native.Nat.{_<_, _≤_};
-ghost use Rattle.algebra.specs.Divisibility.{pow};
-ghost use Rattle.algebra.specs.Residues.{Residues};
-ghost use Rattle.algebra.specs.Polynomials.{PolyRing, _·_, x};
+ghost use Rattle.algebra.specs.Polynomials.{_·_, x};
 ghost use Rattle.algebra.specs.Degree.{Below, Monic};
 ghost use Rattle.algebra.specs.CoefficientLists.{poly, Reduced};
 ghost use Rattle.algebra.specs.Monomials.{x^};
@@ -74,38 +72,6 @@ pub fn product_modulo(a: [u16; 33], b: [u16; 33], q: [u16; 33], d: usize, n: u16
         let v = modular::add_multiple(s, a[i - 1], b, 0, d, n);
         r = v;
         i -= 1;
-    }
-    r
-}
-
-// x^k modulo q, by k multiples by x.
-pub fn power_of_x(k: usize, q: [u16; 33], d: usize, n: u16) -> [u16; 33]
-    requires { ⌜ (1 < n) × (0 < d) × (d < 33) × Monic d (poly n q) ⌝ }
-    ensures { λ r. ⌜ Remainder n q d r (x^ k) ⌝ }
-{
-    let mut r = [0u16; 33];
-    r[0] = 1;
-    let mut i: usize = 0;
-    while i < k {
-        let v = shift(r, q, d, n);
-        r = v;
-        i += 1;
-    }
-    r
-}
-
-// a^k modulo q, by k products.
-pub fn power_modulo(a: [u16; 33], k: usize, q: [u16; 33], d: usize, n: u16) -> [u16; 33]
-    requires { ⌜ (1 < n) × (0 < d) × (d < 33) × Monic d (poly n q) ⌝ }
-    ensures { λ r. ⌜ Remainder n q d r (pow (PolyRing (Residues n)) (poly n a) k) ⌝ }
-{
-    let mut r = [0u16; 33];
-    r[0] = 1;
-    let mut j: usize = 0;
-    while j < k {
-        let v = product_modulo(a, r, q, d, n);
-        r = v;
-        j += 1;
     }
     r
 }

@@ -23,9 +23,9 @@ pub record ElementFound (p d : ℕ) (q : List ℕ) (r : Found) : Type 0 where
   pub unsplit : r .found ≡ false → Unsplit p d (poly p q)
 
 pub element-found : {p : ℕ} → Prime p → {d : ℕ} {q : List ℕ} {images : List Image} {r : Found} → Monic d (poly p q)
-    → PowerImages p q d (x ^ p) (p - 1) d images → DependencyFound p images 1 d r → ElementFound p d q r
+    → PowerImages p q d d images → DependencyFound p images 1 d r → ElementFound p d q r
 element-found P m h a = record {
   reduced = λ e. a .found e .reduced;
-  splits = λ e. dependency-splits P m (difference-remainders (prime-pos P) _ h) (a .found e .within) (a .found e .least);
-  unsplit = λ e. injective-unsplit P m (difference-remainders (prime-pos P) _ h) (a .none e);
+  splits = λ e. dependency-splits P m (difference-remainders h) (a .found e .within) (a .found e .least);
+  unsplit = λ e. injective-unsplit P m (difference-remainders h) (a .none e);
 }

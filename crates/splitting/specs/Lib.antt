@@ -1,4 +1,2 @@
 pub mod Images
 pub mod Elements
-pub mod LargePowers
-pub mod Bases

@@ -1,9 +1,8 @@
 -- `euclid::gcd` meets its contract. The loop keeps two successive remainders of a and b, which are the first two.
 -- Assumes nothing.
 use borrow.Author.Needs.{needs}
-use Rattle.euclid.specs.TakenPrimes.{is-prime}
 use Rattle.euclid.specs.Rows.{Formed, Combined, formed-first, combined-first}
-use Rattle.euclid.specs.CommonDivisors.{gcd-former}
+use Rattle.euclid.specs.CommonDivisors.{gcd-former, cofactor-former}
 use Rattle.euclid.proofs.gcd.Statement.{statement}
 use Rattle.euclid.proofs.gcd.Tie as tie
 
@@ -21,11 +20,11 @@ gcd-spec =
     (λ c κs. search needs)  -- size-requires
     (λ c.
     let h = c .before .pre in
-    let l = (is-prime (h .0)) .large in
+    let l = h .0 .large in
     (combined-first _ _ _ _ _ l, formed-first _ _ _ _ _ l (h .1) (h .3) (h .4) (h .5) (h .6) (c .size .ensures)))  -- loop-holds
     (λ c κs. search needs)  -- next-requires
     (λ c. c .next .ensures .falls)  -- loop-less
     (λ c. (c .next .ensures .combined _ (c .before .before .before .loop .inv .0), c .next .ensures .formed))  -- loop-again
     (λ c.
     let w = c .before .before .before .before .before .loop in
-    gcd-former (w .inv .0) (w .inv .1) (c .before .before .before .if1 .left)))  -- returns
+    (gcd-former (w .inv .0) (w .inv .1) (c .before .before .before .if1 .left), cofactor-former (w .inv .0) (w .inv .1))))  -- returns

@@ -1,7 +1,7 @@
 -- `euclid::monic_row` meets its contract.
 -- Assumes nothing.
 use borrow.Author.Needs.{needs}
-use Rattle.euclid.specs.TakenPrimes.{is-positive}
+use Rattle.algebra.specs.Fields.{prime-pos}
 use Rattle.euclid.specs.Rows.{monic-row}
 use Rattle.euclid.proofs.monic_row.Statement.{statement}
 use Rattle.euclid.proofs.monic_row.Tie as tie
@@ -13,7 +13,7 @@ monic-row-spec =
     (λ c κs. search needs)  -- monic-multiple-requires
     (λ c κs.
     let h = c .before .before .before .pre in
-    (is-positive (h .0), search needs, h .3 .small))  -- multiple-requires
+    (prime-pos (h .0), search needs, h .3 .small))  -- multiple-requires
     (λ c.
     let h = c .before .before .before .before .before .pre in
     monic-row (h .3) (c .before .before .monic-multiple .ensures) (c .before .multiple .ensures)))  -- returns

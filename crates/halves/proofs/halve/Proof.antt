@@ -4,7 +4,7 @@ use Prim.Native.Nat.{_-_}
 use native.Mathlib.Numerals.{add-one}
 use native.Mathlib.Omega.{arith}
 use borrow.Author.Needs.{needs}
-use Rattle.halves.specs.Splitting.{Split, positive, less-small, halves-of, coprime-at, Coprimes, coprimes-more, not-all}
+use Rattle.halves.specs.Splitting.{Split, less-small, halves-of, coprime-at, Coprimes, coprimes-more, not-all}
 use Rattle.halves.proofs.halve.Statement.{statement}
 use Rattle.halves.proofs.halve.Tie as tie
 
@@ -23,20 +23,20 @@ halve-spec =
     (λ c κs.
     let S = c .before .before .before .pre in
     let w = c .less-constant .ensures in
-    (S .prime, positive S, S .fits, w .reduced, S .reduced, rw (w .is) (less-small S (c .before .before .loop .c)), S .monic))  -- gcd-requires
+    (S .prime, S .fits, w .reduced, S .reduced, rw (w .is) (less-small S (c .before .before .loop .c)), S .monic))  -- common-divisor-requires
     (λ c. search needs)  -- add-divide
     (λ c κs.
     let S = c .before .before .before .before .before .before .before .pre in
-    let g = c .before .before .before .gcd .ensures in
+    let g = c .before .before .before .common-divisor .ensures in
     (S .reduced, omega (arith, S .fits), omega (arith, S .fits, g .limit), rw add-one (S .monic .below), g .monic))  -- divide-requires
     (λ c.
     let S = c .before .before .before .before .before .before .before .before .before .pre in
     let d = c .before .before .before .before .before in
-    halves-of S _ (d .before .less-constant .ensures) (d .gcd .ensures) (search needs) (c .before .divide .ensures))  -- returns
+    halves-of S _ (d .before .less-constant .ensures) (d .common-divisor .ensures) (search needs) (c .before .divide .ensures))  -- returns
     (λ c. search needs)  -- add-c
     (λ c. search needs)  -- loop-less
     (λ c S.
     let d = c .before .before .before .before .before in
     coprimes-more S (d .loop .c) (d .loop .inv S)
-    (coprime-at S (d .loop .c) (c .before .before .before .less-constant .ensures) (c .before .before .gcd .ensures) (search needs)))  -- loop-again
+    (coprime-at S (d .loop .c) (c .before .before .before .less-constant .ensures) (c .before .before .common-divisor .ensures) (search needs)))  -- loop-again
     (λ c. absurd (not-all (c .before .before .pre) (λ k l. c .before .loop .inv (c .before .before .pre) k (omega arith)))))  -- returns-2

@@ -3,6 +3,7 @@
 use native.Mathlib.Numerals.{add-one}
 use native.Mathlib.Omega.{arith}
 use borrow.Author.Needs.{needs}
+use Rattle.euclid.specs.TakenPrimes.{is-prime}
 use Rattle.lifting.specs.CoprimePair.{inverse-is}
 use Rattle.lifting.proofs.inverse_modulo.Statement.{statement}
 use Rattle.lifting.proofs.inverse_modulo.Tie as tie
@@ -15,5 +16,10 @@ inverse-modulo-spec =
     (λ c κs.
     let C = c .pre in
     (C .first, omega (arith, C .fits-first), C .fits-second, rw add-one (C .monic-first .below), C .monic-second))  -- remainder-requires
-    (λ c κs. search needs)  -- gcd-requires
-    (λ c. inverse-is (c .before .before .before .pre) (c .before .before .remainder .ensures) (c .before .gcd .ensures)))  -- returns
+    (λ c κs.
+    let C = c .before .pre in
+    let r = c .remainder .ensures in
+    (is-prime (C .prime), C .positive, C .fits-second, r .reduced, C .second, r .small, C .monic-second))  -- gcd-requires
+    (λ c.
+    let g = c .before .gcd .ensures in
+    inverse-is (c .before .before .before .pre) (c .before .before .remainder .ensures) (g .0) (g .1)))  -- returns

@@ -1,8 +1,8 @@
--- `splitting::images` meets its contract. The loop has w = y^i modulo q.
+-- `splitting::images` meets its contract. The loop has w = x^(p·i) modulo q.
 -- Assumes nothing.
 use Prim.Native.Nat.{_-_, _≤_}
 use borrow.Author.Needs.{needs}
-use Rattle.algebra.specs.CoefficientLists.{poly}
+use Rattle.algebra.specs.Monomials.{x^}
 use Rattle.frobenius.specs.FrobeniusPowers.{_^_}
 use Rattle.modular.specs.Coefficients.{below-unit}
 use Rattle.quotients.specs.Remainder.{Remainder}
@@ -12,27 +12,28 @@ use Rattle.splitting.proofs.images.Statement.{statement}
 use Rattle.splitting.proofs.images.Tie as tie
 
 abbrev Inv-loop : tie.InvT-loop
-Inv-loop y c q d p unit r₀ w₀ i₀ r w i = PowerImages p q d (poly p y) c i r × Remainder p q d w (poly p y ^ i) × (i ≤ d)
+Inv-loop q d p r₀ unit w₀ i₀ r w i = PowerImages p q d i r × Remainder p q d w (x^ p ^ i) × (i ≤ d)
 
 abbrev μ-loop : tie.MeasureT-loop
-μ-loop y c q d p unit r₀ w₀ i₀ r w i = d - i
+μ-loop q d p r₀ unit w₀ i₀ r w i = d - i
 
 pub images-spec : {M : Type 1} → statement M
 images-spec =
     tie.close
     (tie.spec Inv-loop μ-loop
     (λ c. search needs)  -- array-write-unit
-    (λ c. (images-none _ _, power-none _ _ _ (c .pre .0) (c .pre .1), search needs))  -- loop-holds
+    (λ c. (images-none, power-none _ _ _ (c .pre .0) (c .pre .1), search needs))  -- loop-holds
+    (λ c. search needs)  -- sub-add-multiple
     (λ c κs. (c .before .loop .inv .1 .reduced, below-unit _ 32, search needs))  -- add-multiple-requires
     (λ c. search needs)  -- mul-r
     (λ c. search needs)  -- array-set-from-r
-    (λ c κs. search needs)  -- product-modulo-requires
+    (λ c κs. search needs)  -- times-power-of-x-requires
     (λ c. search needs)  -- add-i
     (λ c. search needs)  -- loop-less
     (λ c.
     let inv = c .before .before .before .loop .inv in (
-      images-more _ _ (c .before .before .loop-test .taken) (search needs) (inv .0) (inv .1) (c .before .add-multiple .ensures),
-      power-more _ _ _ _ (inv .1) (c .product-modulo .ensures),
+      images-more (search needs) (c .before .before .loop-test .taken) (search needs) (inv .0) (inv .1) (c .before .add-multiple .ensures),
+      power-more _ _ _ _ (inv .1) (c .times-power-of-x .ensures),
       search needs,
     ))  -- loop-again
-    (λ c. images-done _ _ (c .before .loop .inv .2) (c .loop-test .left) (c .before .loop .inv .0)))  -- returns
+    (λ c. images-done (c .before .loop .inv .2) (c .loop-test .left) (c .before .loop .inv .0)))  -- returns

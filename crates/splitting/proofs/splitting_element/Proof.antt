@@ -10,8 +10,8 @@ pub splitting-element-spec : {M : Type 1} → statement M
 splitting-element-spec =
     tie.close
     (tie.spec
-    (λ c κs. search needs)  -- frobenius-images-requires
-    (λ c κs. (c .before .pre .0, c .before .pre .1, search needs, images-given (c .frobenius-images .ensures)))  -- least-dependency-requires
+    (λ c κs. search needs)  -- images-requires
+    (λ c κs. (c .before .pre .0, c .before .pre .1, search needs, images-given (c .images .ensures)))  -- least-dependency-requires
     (λ c.
     let pre = c .before .before .pre in
-    element-found (pre .0) (pre .3) (c .before .frobenius-images .ensures) (c .least-dependency .ensures)))  -- returns
+    element-found (pre .0) (pre .3) (c .before .images .ensures) (c .least-dependency .ensures)))  -- returns
