@@ -1,3 +1,4 @@
+pub mod Reciprocals
 pub mod Coefficients
 pub mod Arrays
 pub mod AddMultiple

@@ -35,6 +35,36 @@ pub fn add_product(y: u16, c: u16, z: u16, n: u16) -> u16
     reduce(n, y as u64 + c as u64 * z as u64)
 }
 
+// 2^32 / n, with which `reduce_by` divides.
+pub fn reciprocal(n: u16) -> u64
+    requires { ⌜ 0 < n ⌝ }
+    ensures { λ r. ⌜ r ≡ 4294967296 / n ⌝ }
+{
+    4294967296 / (n as u64)
+}
+
+// s modulo n, where w is the reciprocal of n: a product in place of a division gives the quotient, or one less.
+pub fn reduce_by(n: u16, w: u64, s: u32) -> u16
+    requires { ⌜ (0 < n) × (w ≡ 4294967296 / n) ⌝ }
+    ensures { λ r. ⌜ r ≡ s % n ⌝ }
+{
+    let q = (s as u64 * w / 4294967296) as u32;
+    let t = s - q * (n as u32);
+    if t < n as u32 {
+        t as u16
+    } else {
+        (t - n as u32) as u16
+    }
+}
+
+// y + c·z modulo n, where w is the reciprocal of n.
+pub fn add_product_by(y: u16, c: u16, z: u16, n: u16, w: u64) -> u16
+    requires { ⌜ (0 < n) × (w ≡ 4294967296 / n) ⌝ }
+    ensures { λ r. ⌜ r ≡ (y +ℕ c *ℕ z) % n ⌝ }
+{
+    reduce_by(n, w, y as u32 + c as u32 * z as u32)
+}
+
 // The inverse of c modulo p, by trial.
 pub fn inverse(c: u16, p: u16) -> u16
     requires { ⌜ Prime p × (0 < c) × (c < p) ⌝ }
@@ -56,10 +86,11 @@ pub fn add_multiple(a: [u16; 33], c: u16, b: [u16; 33], k: usize, m: usize, n: u
     ensures { λ r. ⌜ Represents n r (poly n a + constant (residue n c) · (x^ k · poly n b)) ⌝ }
 {
     let end = k + m;
+    let w = reciprocal(n);
     let mut r = a;
     let mut i = k;
     while i < end {
-        r[i] = add_product(a[i], c, b[i - k], n);
+        r[i] = add_product_by(a[i], c, b[i - k], n, w);
         i += 1;
     }
     r
