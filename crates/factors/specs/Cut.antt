@@ -19,6 +19,8 @@ use Rattle.frobenius.specs.Unsplit.{Unsplit}
 use Rattle.theorems.specs.Reductions.{coefficients, bar-poly}
 use Rattle.modular.specs.Coefficients.{Represents, zeros}
 use Rattle.euclid.specs.TakenPrimes.{is-prime}
+use Rattle.splitting.specs.declared.Element.{Element}
+use Rattle.splitting.specs.Elements.{Known, ForFactor}
 use Rattle.halves.specs.Splitting.{Split, HalvesOf}
 use Rattle.lifting.specs.Defect.{Factors}
 use Rattle.lifting.specs.CoprimePair.{CoprimePair}
@@ -44,8 +46,9 @@ pub record TwoFactors (p : ℕ) (f : List ℕ) (d : ℕ) (A : List ℕ) (i : ℕ
   pub multiplies : poly (p *ℕ p) A · poly (p *ℕ p) B ≡ poly (p *ℕ p) f
 
 -- f is cut, or its bar has no splitting element
-pub record CutOf (p : ℕ) (f : List ℕ) (d : ℕ) (cut : Bool) (A : List ℕ) (i : ℕ) (B : List ℕ) : Type 0 where
+pub record CutOf (p : ℕ) (f : List ℕ) (d : ℕ) (cut : Bool) (A : List ℕ) (i : ℕ) (B : List ℕ) (rest : Element) : Type 0 where
   pub two : cut ≡ true → TwoFactors p f d A i B
+  pub rest-known : cut ≡ true → Known p (d - i) (poly p B) rest
   pub none : cut ≡ false → Unsplit p d (poly p f)
 
 module _ {p : ℕ} {f : List ℕ} {d : ℕ} (M : Monics p f d) where
@@ -58,6 +61,10 @@ module _ {p : ℕ} {f : List ℕ} {d : ℕ} (M : Monics p f d) where
   module _ {q : List ℕ} (hq : Represents p q (poly p f)) where
     pub bar-is-monic : Monic d (poly p q)
     bar-is-monic = rw (hq .is) bar-monic
+
+    -- an element of the bar of f is one of the array that holds it
+    pub bar-known : {e : Element} → Known p d (poly p f) e → Known p d (poly p q) e
+    bar-known {e} = subst (λ Q. Known p d Q e) (sym (hq .is))
 
     pub split-given : {v : List ℕ} → Reduced p 33 v → SplittingElement p d (poly p q) (poly p v) → Split p q d v
     split-given hv s = record {
@@ -98,6 +105,11 @@ module _ {p : ℕ} {f : List ℕ} {d : ℕ} (M : Monics p f d) where
         monic-second = H .monic-second;
         coprime = H .coprime;
       }
+
+      -- an element of the bar of f is one of the second factor's, where it is known
+      pub second-known : (v : List ℕ) {A B : List ℕ} {r : Element} → SplittingElement p d (poly p q) (poly p v) → ForFactor p d v (d - i) b r
+          → Lifted p f a i b (d - i) A B → Known p (d - i) (poly p B) r
+      second-known v {B = B} {r} s k L = subst (λ Q. Known p (d - i) Q r) (sym (L .bar-second)) (k (poly p q) s (poly p a, H .multiplies))
 
       pub two-factors : {A B : List ℕ} → Lifted p f a i b (d - i) A B → TwoFactors p f d A i B
       two-factors L = record {

@@ -2,14 +2,19 @@
 // All is public for the crates above, and no entry point of the library.
 ghost use Rattle.algebra.specs.CoefficientLists.{poly};
 ghost use Rattle.modular.specs.Coefficients.{Represents};
+ghost use Rattle.splitting.specs.Elements.{Known};
 ghost use Rattle.factors.specs.Cut.{Monics, CutOf};
+use splitting::Element;
+use splitting::element_for;
+use splitting::element_of;
 
-// f is first·second, where it is cut; the first is of the degree given.
+// f is first·second, where it is cut; the first is of the degree given. The rest is a splitting element of the second's bar, if it is known.
 pub struct Cut {
     pub cut: bool,
     pub first: [u16; 33],
     pub degree: usize,
     pub second: [u16; 33],
+    pub rest: Element,
 }
 
 // f modulo p.
@@ -21,17 +26,19 @@ pub fn bar(f: [u16; 33], d: usize, p: u16) -> [u16; 33]
     modular::sum(zero, f, p)
 }
 
-pub fn cut_in_two(f: [u16; 33], d: usize, p: u16) -> Cut
-    requires { ⌜ Monics p f d ⌝ }
-    ensures { λ r. ⌜ CutOf p f d (r .cut) (r .first) (r .degree) (r .second) ⌝ }
+// The element e of the bar of f is used, if it is known.
+pub fn cut_in_two(f: [u16; 33], d: usize, e: Element, p: u16) -> Cut
+    requires { ⌜ Monics p f d × Known p d (poly p f) e ⌝ }
+    ensures { λ r. ⌜ CutOf p f d (r .cut) (r .first) (r .degree) (r .second) (r .rest) ⌝ }
 {
     let q = bar(f, d, p);
-    let e = splitting::splitting_element(q, d, p);
-    if e.found {
-        let v = e.v;
+    let t = element_of(q, d, e, p);
+    if t.found {
+        let v = t.v;
         let h = halves::halve(q, d, v, p);
         let a = h.first;
         let b = h.second;
+        let rest = element_for(v, d, b, d - h.degree, p);
         let c = lifting::lift(f, a, h.degree, b, d - h.degree, p);
         let first = c.first;
         let second = c.second;
@@ -40,6 +47,7 @@ pub fn cut_in_two(f: [u16; 33], d: usize, p: u16) -> Cut
             first: first,
             degree: h.degree,
             second: second,
+            rest: rest,
         };
     }
     Cut {
@@ -47,5 +55,6 @@ pub fn cut_in_two(f: [u16; 33], d: usize, p: u16) -> Cut
         first: f,
         degree: d,
         second: f,
+        rest: e,
     }
 }

@@ -1,6 +1,7 @@
 -- The loop over the pieces: `Splitting p f pieces count parts`, the state with its stack in the first `count` of an array.
 -- Proves what each of the loop's steps asks for and leaves. Assumes nothing.
 use mathlib.Core.Path.{_≡_, sym, _∙_, subst}
+use mathlib.Core.Bool.{false}
 use mathlib.Core.List.{List, [], _∷_}
 use Prim.Native.Nat.{ℕ, suc, _+_, _-_, _≤_, _<_}
 use native.Mathlib.Omega.{arith}
@@ -10,6 +11,8 @@ use Rattle.algebra.specs.CoefficientLists.{poly}
 use Rattle.factorisation.specs.Members.{All}
 use Rattle.frobenius.specs.Unsplit.{Unsplit}
 use Rattle.modular.specs.Coefficients.{Represents}
+use Rattle.splitting.specs.declared.Element.{Element}
+use Rattle.splitting.specs.Elements.{Known}
 use Rattle.factors.specs.Cut.{Monics, TwoFactors}
 use Rattle.verdicts.specs.Given.{listed}
 use Rattle.verdicts.specs.declared.Part.{Part}
@@ -24,7 +27,7 @@ use Rattle.parts.specs.State.{State, PartsOf, work}
 
 -- what is read past an array's end
 abbrev pub noPiece : Piece
-noPiece = record { coefs = []; degree = 0 }
+noPiece = record { coefs = []; degree = 0; element = record { known = false; v = [] } }
 
 -- f is held whole in the first of the pieces at the start
 pub record Splitting (p : ℕ) (f : spec.Poly) (pieces : List Piece) (count : ℕ) (parts : Parts) : Type 0 where
@@ -57,6 +60,9 @@ module _ {p : ℕ} {f : spec.Poly} {pieces : List Piece} {count : ℕ} {parts : 
   pub top : Monics p (x .coefs) (x .degree)
   top = state.top p f parts x rest opened
 
+  pub top-element : Known p (x .degree) (poly p (x .coefs)) (x .element)
+  top-element = state.top-element p f parts x rest opened
+
   -- a piece that is not cut, with its bar
   pub whole-piece : {q : List ℕ} → Represents p q (poly p (x .coefs)) → Unsplit p (x .degree) (poly p (x .coefs)) → UnsplitPiece p (x .coefs) q (x .degree)
   whole-piece b u = record {
@@ -73,26 +79,26 @@ module _ {p : ℕ} {f : spec.Poly} {pieces : List Piece} {count : ℕ} {parts : 
   pub arrays-fit : All (λ a. a .degree < 33) (held parts)
   arrays-fit = state.arrays-fit p f parts x rest opened
 
-  module _ {a b : List ℕ} {i : ℕ} (t : TwoFactors p (x .coefs) (x .degree) a i b) where
+  pub piece-room : {a b : List ℕ} {i : ℕ} → TwoFactors p (x .coefs) (x .degree) a i b → count < 32
+  piece-room {a} {b} {i} t = omega (arith, state.piece-room p f parts x rest opened a b i t, stack-length noPiece pieces (count - 1))
+
+  module _ {a b : List ℕ} {i : ℕ} (none more : Element) (t : TwoFactors p (x .coefs) (x .degree) a i b) where
     -- the array where the top piece is cut in two
     abbrev after : List Piece
-    after = set (set pieces (count - 1) (record { coefs = b; degree = x .degree - i })) count (record { coefs = a; degree = i })
+    after = set (set pieces (count - 1) (record { coefs = b; degree = x .degree - i; element = more })) count (record { coefs = a; degree = i; element = none })
 
-    pub piece-room : count < 32
-    piece-room = omega (arith, state.piece-room p f parts x rest opened a b i t, stack-length noPiece pieces (count - 1))
+    two : stack noPiece after (count + 1) ≡ record { coefs = a; degree = i; element = none } ∷ record { coefs = b; degree = x .degree - i; element = more } ∷ rest
+    two = stack-two noPiece pieces (record { coefs = a; degree = i; element = none }) (record { coefs = b; degree = x .degree - i; element = more }) count l (omega (arith, w .long, piece-room t))
 
-    two : stack noPiece after (count + 1) ≡ record { coefs = a; degree = i } ∷ record { coefs = b; degree = x .degree - i } ∷ rest
-    two = stack-two noPiece pieces (record { coefs = a; degree = i }) (record { coefs = b; degree = x .degree - i }) count l (omega (arith, w .long, piece-room))
-
-    pub splitting-cut : Splitting p f after (count + 1) parts
-    splitting-cut = record {
-      few = omega (arith, piece-room);
+    pub splitting-cut : none .known ≡ false → Known p (x .degree - i) (poly p b) more → Splitting p f after (count + 1) parts
+    splitting-cut z k = record {
+      few = omega (arith, piece-room t);
       long = length-set (set pieces (count - 1) _) count _ ∙ length-set pieces (count - 1) _ ∙ w .long;
-      state = subst (State p f parts) (sym two) (state.state-cut p f parts x rest opened a b i t);
+      state = subst (State p f parts) (sym two) (state.state-cut p f parts x rest opened a b i none more t z k);
     }
 
     pub cut-less : left after (count + 1) < left pieces count
-    cut-less = rw (two, whole) (state.cut-works p f parts x rest opened a b i t)
+    cut-less = rw (two, whole) (state.cut-works p f parts x rest opened a b i none more t)
 
   pub splitting-found : {r : Parts} {part : Part} → PartFound p (x .coefs) (x .degree) part → r .count ≡ suc (parts .count)
       → Inserted PartBefore part (held parts) (held r) → Splitting p f pieces (count - 1) r

@@ -1,7 +1,8 @@
 -- The state of the splitting of f: the parts that are found, and a stack of pieces. `work` measures what is left to do.
 -- Proves how the state begins, that it goes on with less work where the top piece is cut and where it is found to be a part, and what it says at the end.
 -- Assumes nothing.
-use mathlib.Core.Path.{_≡_, refl, sym, _∙_, ap, subst}
+use mathlib.Core.Path.{_≡_, refl, sym, _∙_, subst}
+use mathlib.Core.Bool.{false, false≢true}
 use mathlib.Core.List.{List, [], _∷_, map}
 use mathlib.Core.List.{List·Memᴰ·head as here}
 use Prim.Native.Nat.{ℕ, suc, _+_, _-_, _≤_, _<_, _*_ as _*ℕ_}
@@ -11,8 +12,11 @@ use Rattle.specification.specs.Polynomials as spec
 use Rattle.specification.specs.Parts as specification
 use Rattle.algebra.specs.Numbers.{square-large}
 use Rattle.algebra.specs.Fields.{Prime}
+use Rattle.algebra.specs.CoefficientLists.{ℤ[x]/, poly}
 use Rattle.factorisation.specs.Members.{All, all-cons, all-tail}
 use Rattle.theorems.specs.MonicLists.{MonicList, to-claims}
+use Rattle.splitting.specs.declared.Element.{Element}
+use Rattle.splitting.specs.Elements.{Known}
 use Rattle.factors.specs.Cut.{Monics, TwoFactors}
 use Rattle.verdicts.specs.Given.{listed, is-prime}
 use Rattle.verdicts.specs.SplitByItems.{PartHeld}
@@ -45,10 +49,15 @@ pub record PartsOf (p : ℕ) (f : List ℕ) (d : ℕ) (r : Parts) : Type 0 where
   pub few : r .count ≤ 32
   pub arrays : All (PartHeld p) (held r)
 
+-- a piece is monic, and its element, if it is known, splits its bar
+pub record PieceHeld (p : ℕ) (a : Piece) : Type 0 where
+  pub monic : Monics p (a .coefs) (a .degree)
+  pub element : Known p (a .degree) (poly p (a .coefs)) (a .element)
+
 pub record State (p : ℕ) (f : spec.Poly) (parts : Parts) (S : List Piece) : Type 0 where
   pub prime : Prime p
   pub holding : Holding p prime f parts (map pieceList S)
-  pub monic : All (λ a. Monics p (a .coefs) (a .degree)) S
+  pub pieces : All (PieceHeld p) S
   pub room : parts .count + weight S ≤ 32
   pub arrays : All (PartHeld p) (held parts)
 
@@ -58,22 +67,26 @@ array-of m = record { fits = m .fits; reduced = m .reduced; monic = m .monic }
 given-list : {p : ℕ} {f : List ℕ} {d : ℕ} → Monics p f d → MonicList (p *ℕ p) d (listed d f)
 given-list {p} m = listed-monic (square-large p (is-prime p (m .prime) .large)) (array-of m)
 
-pub state-start : (p : ℕ) (f : List ℕ) (d : ℕ) (parts : Parts) → Monics p f d → parts .count ≡ 0
-    → State p (listed d f) parts (record { coefs = f; degree = d } ∷ [])
+-- nothing is claimed of an element that is not known
+pub not-known : {p d : ℕ} (Q : ℤ[x]/ p) {e : Element} → e .known ≡ false → Known p d Q e
+not-known Q z = record { reduced = λ y. absurd (false≢true (sym z ∙ y)); splits = λ y. absurd (false≢true (sym z ∙ y)) }
+
+pub state-start : (p : ℕ) (f : List ℕ) (d : ℕ) (e : Element) (parts : Parts) → Monics p f d → e .known ≡ false → parts .count ≡ 0
+    → State p (listed d f) parts (record { coefs = f; degree = d; element = e } ∷ [])
 unfolding weight
-state-start p f d parts m e = record {
+state-start p f d none parts m z e = record {
   prime = is-prime p (m .prime);
   holding = holding-start p (is-prime p (m .prime)) (listed d f) parts e (to-claims (m .positive) (given-list m));
-  monic = all-cons m (λ a i. elim i [ ]);
+  pieces = all-cons (record { monic = m; element = not-known (poly p f) z }) (λ a i. elim i [ ]);
   room = omega (arith, e, m .fits);
   arrays = subst (λ k. All (PartHeld p) (take k (parts .parts))) (sym e) (λ x i. elim i [ ]);
 }
 
 -- no piece is of degree 0
-pieces-weigh : (p : ℕ) (S : List Piece) → All (λ a. Monics p (a .coefs) (a .degree)) S → length S ≤ weight S
+pieces-weigh : (p : ℕ) (S : List Piece) → All (PieceHeld p) S → length S ≤ weight S
 unfolding weight
 pieces-weigh p [] h = omega arith
-pieces-weigh p (a ∷ S) h = omega (arith, h a (here refl) .positive, pieces-weigh p S (all-tail h))
+pieces-weigh p (a ∷ S) h = omega (arith, h a (here refl) .monic .positive, pieces-weigh p S (all-tail h))
 
 pub state-done : (p : ℕ) (f : List ℕ) (d : ℕ) (parts : Parts) → Monics p f d → State p (listed d f) parts [] → PartsOf p f d parts
 state-done p f d parts m w = record {
@@ -84,10 +97,13 @@ state-done p f d parts m w = record {
 
 module _ (p : ℕ) (f : spec.Poly) (parts : Parts) (x : Piece) (S : List Piece) (w : State p f parts (x ∷ S)) where
   pub top : Monics p (x .coefs) (x .degree)
-  top = w .monic x (here refl)
+  top = w .pieces x (here refl) .monic
+
+  pub top-element : Known p (x .degree) (poly p (x .coefs)) (x .element)
+  top-element = w .pieces x (here refl) .element
 
   rest-weighs : length S ≤ weight S
-  rest-weighs = pieces-weigh p S (all-tail (w .monic))
+  rest-weighs = pieces-weigh p S (all-tail (w .pieces))
 
   -- there is room for the part that a piece may be
   pub part-room : parts .count < 32
@@ -97,7 +113,13 @@ module _ (p : ℕ) (f : spec.Poly) (parts : Parts) (x : Piece) (S : List Piece) 
   pub arrays-fit : All (λ a. a .degree < 33) (held parts)
   arrays-fit a i = omega (arith, w .arrays a i .room)
 
-  module _ (a b : List ℕ) (i : ℕ) (t : TwoFactors p (x .coefs) (x .degree) a i b) where
+  -- there is room for one piece more, where the top is cut
+  pub piece-room : (a b : List ℕ) (i : ℕ) → TwoFactors p (x .coefs) (x .degree) a i b → suc (length S) < 32
+  unfolding weight
+  piece-room a b i t = omega (arith, w .room, t .positive, t .less, rest-weighs)
+
+  -- the element of the first is not known
+  module _ (a b : List ℕ) (i : ℕ) (none rest : Element) (t : TwoFactors p (x .coefs) (x .degree) a i b) where
     first : Monics p a i
     first = record { prime = top .prime; positive = t .positive; fits = omega (arith, t .less, top .fits); reduced = t .first; monic = t .monic-first }
 
@@ -111,23 +133,18 @@ module _ (p : ℕ) (f : spec.Poly) (parts : Parts) (x : Piece) (S : List Piece) 
     }
 
     abbrev after : List Piece
-    after = record { coefs = a; degree = i } ∷ record { coefs = b; degree = x .degree - i } ∷ S
+    after = record { coefs = a; degree = i; element = none } ∷ record { coefs = b; degree = x .degree - i; element = rest } ∷ S
 
-    pub state-cut : State p f parts after
+    pub state-cut : none .known ≡ false → Known p (x .degree - i) (poly p b) rest → State p f parts after
     unfolding weight
-    state-cut = record {
+    state-cut z k = record {
       prime = w .prime;
       holding = holding-cut p (w .prime) f parts (x .coefs) a b (x .degree) i (map pieceList S) (w .holding) (t .positive) (t .less) (array-of top)
           (array-of first) (array-of second) (t .coprime) (t .multiplies);
-      monic = all-cons first (all-cons second (all-tail (w .monic)));
+      pieces = all-cons (record { monic = first; element = not-known (poly p a) z }) (all-cons (record { monic = second; element = k }) (all-tail (w .pieces)));
       room = omega (arith, w .room, t .less);
       arrays = w .arrays;
     }
-
-    -- there is room for one piece more
-    pub piece-room : suc (length S) < 32
-    unfolding weight
-    piece-room = omega (arith, w .room, t .positive, t .less, rest-weighs)
 
     pub cut-works : work after < work (x ∷ S)
     unfolding work weight
@@ -140,7 +157,7 @@ module _ (p : ℕ) (f : spec.Poly) (parts : Parts) (x : Piece) (S : List Piece) 
     prime = w .prime;
     holding = holding-found p (w .prime) f parts r part (t .found) (map pieceList S)
         (subst (λ g. Holding p (w .prime) f parts (g ∷ map pieceList S)) (sym (t .part-is)) (w .holding)) (t .over) (t .is) i;
-    monic = all-tail (w .monic);
+    pieces = all-tail (w .pieces);
     room = omega (arith, e, w .room, top .positive);
     arrays = inserted-all PartBefore (PartHeld p) i (t .held) (w .arrays);
   }

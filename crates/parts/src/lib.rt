@@ -1,6 +1,7 @@
 // All parts of a monic f modulo p², in the order of item 3: a stack of pieces, each cut in two or found to be a part.
 // `parts_of` takes any record; the rest is public for the crates above.
 ghost use mathlib.Core.Path.{_≡_};
+ghost use mathlib.Core.Bool.{false};
 ghost use Rattle.specification.specs.RecordParts as specification;
 ghost use Rattle.polynomial.specs.Views.{asRecord};
 ghost use Rattle.factors.specs.Cut.{Monics};
@@ -13,14 +14,26 @@ use pieces::Parts;
 use pieces::insert;
 use polynomial::Poly;
 use primary::primary_part;
+use splitting::Element;
 use verdicts::Factor;
 use verdicts::Part;
 use verdicts::Verdict;
 
-// A monic polynomial modulo p², and its degree.
+// A monic polynomial modulo p², its degree, and a splitting element of its bar, if one is known.
 pub struct Piece {
     pub coefs: [u16; 33],
     pub degree: usize,
+    pub element: Element,
+}
+
+// No splitting element is known.
+fn unknown() -> Element
+    ensures { λ r. ⌜ r .known ≡ false ⌝ }
+{
+    Element {
+        known: false,
+        v: [0u16; 33],
+    }
 }
 
 // What a record's polynomial is split into; no parts where the number is not 0.
@@ -60,9 +73,11 @@ pub fn split(f: [u16; 33], d: usize, p: u16) -> Parts
     requires { ⌜ Monics p f d ⌝ }
     ensures { λ r. ⌜ PartsOf p f d r ⌝ }
 {
+    let none = unknown();
     let whole = Piece {
         coefs: f,
         degree: d,
+        element: none,
     };
     let mut pieces = [whole; 32];
     let mut count: usize = 1;
@@ -70,17 +85,21 @@ pub fn split(f: [u16; 33], d: usize, p: u16) -> Parts
     while 0 < count {
         let piece = pieces[count - 1];
         let q = piece.coefs;
-        let c = cut_in_two(q, piece.degree, p);
+        let element = piece.element;
+        let c = cut_in_two(q, piece.degree, element, p);
         if c.cut {
             let a = c.first;
             let b = c.second;
+            let rest = c.rest;
             let lower = Piece {
                 coefs: b,
                 degree: piece.degree - c.degree,
+                element: rest,
             };
             let upper = Piece {
                 coefs: a,
                 degree: c.degree,
+                element: none,
             };
             pieces[count - 1] = lower;
             pieces[count] = upper;

@@ -1,20 +1,30 @@
--- What `splitting_element` finds: `ElementFound`, a splitting element of q, or that there is none.
--- Proves it of the least dependency of v^p − v. Assumes nothing.
+-- What `splitting_element` finds: `ElementFound`, a splitting element of q, or that there is none. `Known`: an element at hand.
+-- Proves the first of the least dependency of v^p − v, and that an element of q is one of each factor for which it is not constant. Assumes nothing.
 use mathlib.Core.Path.{_≡_}
-use mathlib.Core.Bool.{true, false}
+use mathlib.Core.Bool.{true, false, true≢false}
 use mathlib.Core.List.{List}
-use Prim.Native.Nat.{ℕ, _-_}
-use Rattle.algebra.specs.Polynomials.{x}
-use Rattle.algebra.specs.Degree.{Monic}
-use Rattle.algebra.specs.Fields.{Prime, prime-pos}
-use Rattle.algebra.specs.CoefficientLists.{poly, Reduced}
-use Rattle.frobenius.specs.FrobeniusPowers.{_^_}
+use Prim.Native.Nat.{ℕ}
+use native.Mathlib.Omega.{arith}
+use lib.Dec.{ltb}
+use borrow.Author.Tests.{ltb-true}
+use Rattle.algebra.specs.Ring.{CommRing}
+use Rattle.algebra.specs.Divisibility.{_∣_, divides-trans}
+use Rattle.algebra.specs.Residues.{Residues}
+use Rattle.algebra.specs.Polynomials.{PolyRing}
+use Rattle.algebra.specs.Degree.{Monic, below-constant}
+use Rattle.algebra.specs.Fields.{Prime}
+use Rattle.algebra.specs.CoefficientLists.{ℤ[x]/, poly, Reduced}
+use Rattle.algebra.specs.Congruence.{congruent-add, congruent-neg, congruent-pow, divides-congruent}
 use Rattle.frobenius.specs.SplittingElements.{SplittingElement}
 use Rattle.frobenius.specs.Unsplit.{Unsplit}
 use Rattle.frobenius.specs.PowerDependencies.{dependency-splits, injective-unsplit}
+use Rattle.modular.specs.Coefficients.{Size}
+use Rattle.modular.specs.Arrays.{size-small}
+use Rattle.quotients.specs.Remainder.{Remainder}
 use Rattle.dependency.specs.declared.Image.{Image}
 use Rattle.dependency.specs.declared.Found.{Found}
 use Rattle.dependency.specs.Dependency.{DependencyFound}
+use Rattle.splitting.specs.declared.Element.{Element}
 use Rattle.splitting.specs.Images.{PowerImages, difference-remainders}
 
 pub record ElementFound (p d : ℕ) (q : List ℕ) (r : Found) : Type 0 where
@@ -29,3 +39,31 @@ element-found P m h a = record {
   splits = λ e. dependency-splits P m (difference-remainders h) (a .found e .within) (a .found e .least);
   unsplit = λ e. injective-unsplit P m (difference-remainders h) (a .none e);
 }
+
+-- e is a splitting element of Q, of degree d, where it is known
+pub record Known (p d : ℕ) (Q : ℤ[x]/ p) (e : Element) : Type 0 where
+  pub reduced : e .known ≡ true → Reduced p 33 (e .v)
+  pub splits : e .known ≡ true → SplittingElement p d Q (poly p (e .v))
+
+pub element-known : {p d : ℕ} {q : List ℕ} {e : Element} {k : ℕ} → Known p d (poly p q) e → e .known ≡ true
+    → ElementFound p d q (record { found = true; degree = k; v = e .v })
+element-known h z = record { reduced = λ y. h .reduced z; splits = λ y. h .splits z; unsplit = λ y. absurd (true≢false y) }
+
+-- of whatever polynomial v is a splitting element, if b divides it
+abbrev pub ForFactor : (p d : ℕ) → List ℕ → ℕ → List ℕ → Element → Type 0
+ForFactor p d v j b r = (Q : ℤ[x]/ p) → SplittingElement p d Q (poly p v) → _∣_ (PolyRing (Residues p)) (poly p b) Q → Known p j (poly p b) r
+
+-- r is v modulo b, and has s terms
+pub element-left : {p d j : ℕ} (v : List ℕ) {b r : List ℕ} {s : ℕ} → Remainder p b j r (poly p v) → Size r s
+    → ForFactor p d v j b (record { known = ltb 1 s; v = r })
+element-left {p} {d} {j} v {b} {r} {s} h z Q E D = record { reduced = λ y. h .reduced; splits = splits }
+  where
+    𝓟 : CommRing (ℤ[x]/ p)
+    𝓟 = PolyRing (Residues p)
+
+    splits : ltb 1 s ≡ true → SplittingElement p j (poly p b) (poly p r)
+    splits y = record {
+      small = h .small;
+      nonconstant = λ c e. absurd (omega (arith, ltb-true 1 s y, size-small {k = 1} (h .reduced) (rw e (below-constant c)) z));
+      fixed = divides-congruent 𝓟 (congruent-add 𝓟 (congruent-pow 𝓟 p (h .congruent)) (congruent-neg 𝓟 (h .congruent))) (divides-trans 𝓟 D (E .fixed));
+    }

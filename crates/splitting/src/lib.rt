@@ -1,16 +1,24 @@
 // Splitting modulo a prime p by least dependencies, where q is monic of degree d: an element that splits q, or the answer that q is a power of
-// one irreducible polynomial. All is public for the crates above, and no entry point.
+// one irreducible polynomial; and what an element is for a factor of q. All is public for the crates above, and no entry point.
 use dependency::Found;
 use dependency::Image;
 use dependency::least_dependency;
 use modular::add_multiple;
+use modular::size;
+use quotients::remainder;
 use quotients::times_power_of_x;
 ghost use Prim.Native.Nat.{_<_};
 ghost use Rattle.algebra.specs.Fields.{Prime};
-ghost use Rattle.algebra.specs.Degree.{Monic};
-ghost use Rattle.algebra.specs.CoefficientLists.{poly};
+ghost use Rattle.algebra.specs.Degree.{Below, Monic};
+ghost use Rattle.algebra.specs.CoefficientLists.{poly, Reduced};
 ghost use Rattle.splitting.specs.Images.{PowerImages};
-ghost use Rattle.splitting.specs.Elements.{ElementFound};
+ghost use Rattle.splitting.specs.Elements.{ElementFound, Known, ForFactor};
+
+// A splitting element, where it is known.
+pub struct Element {
+    pub known: bool,
+    pub v: [u16; 33],
+}
 
 // x^(p·i) - x^i modulo q for i below d: the images of the x^i under the map that takes v to v^p - v. p - 1 stands for minus one.
 pub fn images(q: [u16; 33], d: usize, p: u16) -> [Image; 33]
@@ -40,4 +48,30 @@ pub fn splitting_element(q: [u16; 33], d: usize, p: u16) -> Found
 {
     let t = images(q, d, p);
     least_dependency(t, 1, d, p)
+}
+
+// A splitting element of q: the one at hand, if it is known, or else one that is looked for.
+pub fn element_of(q: [u16; 33], d: usize, e: Element, p: u16) -> Found
+    requires { ⌜ Prime p × (0 < d) × (d < 33) × Monic d (poly p q) × Known p d (poly p q) e ⌝ }
+    ensures { λ r. ⌜ ElementFound p d q r ⌝ }
+{
+    let v = e.v;
+    if e.known {
+        return Found {
+            found: true,
+            degree: d,
+            v: v,
+        };
+    }
+    splitting_element(q, d, p)
+}
+
+// What an element v of q, of degree d, is for a factor b of q, of degree j: a splitting element, unless v is constant modulo b.
+pub fn element_for(v: [u16; 33], d: usize, b: [u16; 33], j: usize, p: u16) -> Element
+    requires { ⌜ (d < 33) × (j < 33) × Reduced p 33 v × Below d (poly p v) × Monic j (poly p b) ⌝ }
+    ensures { λ r. ⌜ ForFactor p d v j b r ⌝ }
+{
+    let r = remainder(v, d, b, j, p);
+    let s = size(r);
+    Element { known: 1 < s, v: r }
 }

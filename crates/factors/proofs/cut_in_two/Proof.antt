@@ -2,10 +2,11 @@
 -- Assumes nothing.
 use mathlib.Core.Path.{sym, subst}
 use mathlib.Core.Bool.{true≢false}
+use native.Mathlib.Omega.{arith}
 use borrow.Author.Needs.{needs}
 use Rattle.frobenius.specs.Unsplit.{Unsplit}
 use Rattle.euclid.specs.TakenPrimes.{is-prime}
-use Rattle.factors.specs.Cut.{bar-is-monic, split-given, factors-given, pair-given, two-factors}
+use Rattle.factors.specs.Cut.{bar-is-monic, bar-known, split-given, factors-given, pair-given, second-known, two-factors}
 use Rattle.factors.proofs.cut_in_two.Statement.{statement}
 use Rattle.factors.proofs.cut_in_two.Tie as tie
 
@@ -15,26 +16,40 @@ cut-in-two-spec =
     (tie.spec
     (λ c κs. search needs)  -- bar-requires
     (λ c κs.
-    let M = c .before .pre in
-    (is-prime (M .prime), M .positive, M .fits, bar-is-monic M (c .bar .ensures)))  -- splitting-element-requires
+    let M = c .before .pre .0 in
+    (is-prime (M .prime), M .positive, M .fits, bar-is-monic M (c .bar .ensures), bar-known M (c .bar .ensures) (c .before .pre .1)))  -- element-of-requires
     (λ c κs.
     let d = c .before .before in
-    let e = d .splitting-element .ensures in
+    let e = d .element-of .ensures in
     let s = c .before .if1 .taken in
-    split-given (d .before .before .pre) (d .before .bar .ensures) (e .reduced s) (e .splits s))  -- halve-requires
+    split-given (d .before .before .pre .0) (d .before .bar .ensures) (e .reduced s) (e .splits s))  -- halve-requires
+    (λ c. search needs)  -- sub-element-for
+    (λ c κs.
+    let h = c .before .before .before .halve .ensures in
+    let e = c .before .before .before .before .before .before .element-of .ensures in
+    let s = c .before .before .before .before .before .if1 .taken in
+    let M = c .before .before .before .before .before .before .before .before .pre .0 in
+    (M .fits, omega (arith, M .fits), e .reduced s, e .splits s .small, h .monic-second))  -- element-for-requires
     (λ c. search needs)  -- sub-lift
     (λ c κs.
-    let d = c .before .before .before in
-    let b = d .before .before .before .before in
-    (factors-given (b .before .pre) (b .bar .ensures) (d .halve .ensures), pair-given (b .before .pre) (b .bar .ensures) (d .halve .ensures)))  -- lift-requires
+    let h = c .before .before .before .before .before .halve .ensures in
+    let b = c .before .before .before .before .before .before .before .before .before in
+    (factors-given (b .before .pre .0) (b .bar .ensures) h, pair-given (b .before .pre .0) (b .bar .ensures) h))  -- lift-requires
     (λ c.
-    let d = c .before .before in
-    let h = d .before .before .before .before in
-    let b = h .before .before .before .before in
-    record { two = λ e. two-factors (b .before .pre) (b .bar .ensures) (h .halve .ensures) (d .lift .ensures); none = λ e. absurd (true≢false e) })  -- returns
+    let h = c .before .before .before .before .before .before .before .before .halve .ensures in
+    let b = c .before .before .before .before .before .before .before .before .before .before .before .before in
+    let M = b .before .pre .0 in
+    let lifted = c .before .before .lift .ensures in
+    let element = c .before .before .before .before .before .before .before .before .before .before .before .element-of .ensures .splits (c .before .before .before .before .before .before .before .before .before .before .if1 .taken) in
+    record {
+      two = λ e. two-factors M (b .bar .ensures) h lifted;
+      rest-known = λ e. second-known M (b .bar .ensures) h _ element (c .before .before .before .before .element-for .ensures) lifted;
+      none = λ e. absurd (true≢false e);
+    })  -- returns
     (λ c.
     let d = c .before in
     record {
       two = λ e. absurd (true≢false (sym e));
-      none = λ e. subst (Unsplit _ _) (d .before .bar .ensures .is) (d .splitting-element .ensures .unsplit (c .if1 .left));
+      rest-known = λ e. absurd (true≢false (sym e));
+      none = λ e. subst (Unsplit _ _) (d .before .bar .ensures .is) (d .element-of .ensures .unsplit (c .if1 .left));
     }))  -- returns-2

@@ -6,75 +6,88 @@ use lib.ListN.{getD}
 use borrow.Author.Needs.{needs}
 use Rattle.parts.specs.Stack.{stack}
 use Rattle.parts.specs.State.{pieceList, state-start}
-use Rattle.parts.specs.Pieces.{noPiece, Splitting, left, top, whole-piece, part-room, arrays-fit, piece-room, splitting-cut, cut-less, splitting-found, found-less, splitting-done}
+use Rattle.parts.specs.Pieces.{noPiece, Splitting, left, top, top-element, whole-piece, part-room, arrays-fit, piece-room, splitting-cut, cut-less, splitting-found, found-less, splitting-done}
 use Rattle.parts.proofs.split.Statement.{statement}
 use Rattle.parts.proofs.split.Tie as tie
 
 abbrev Inv-loop : tie.InvT-loop
-Inv-loop d p pieces₀ count₀ parts₀ pieces count parts = Splitting p (pieceList (getD pieces₀ 0 noPiece)) pieces count parts
+Inv-loop d p none pieces₀ count₀ parts₀ pieces count parts = Splitting p (pieceList (getD pieces₀ 0 noPiece)) pieces count parts
 
 abbrev μ-loop : tie.MeasureT-loop
-μ-loop d p pieces₀ count₀ parts₀ pieces count parts = left pieces count
+μ-loop d p none pieces₀ count₀ parts₀ pieces count parts = left pieces count
 
 pub split-spec : {M : Type 1} → statement M
 split-spec =
     tie.close
     (tie.spec Inv-loop μ-loop
+    (λ c κs. search needs)  -- unknown-requires
     (λ c κs. search needs)  -- no-parts-requires
-    (λ c. record { few = omega arith; long = refl; state = unfold stack in state-start _ _ _ _ (c .before .pre) (c .no-parts .ensures) })  -- loop-holds
+    (λ c. record {
+      few = omega arith;
+      long = refl;
+      state = unfold stack in state-start _ _ _ _ _ (c .before .before .pre) (c .before .unknown .ensures) (c .no-parts .ensures);
+    })  -- loop-holds
     (λ c. search needs)  -- sub-piece
     (λ c. search needs)  -- mul-piece
     (λ c. search needs)  -- array-copy-out-piece
-    (λ c κs. top (c .before .before .before .loop .inv) (c .before .before .loop-test .taken))  -- cut-in-two-requires
-    (λ c. omega (arith, c .before .before .before .before .before .cut-in-two .ensures .two (c .before .before .before .before .if1 .taken) .less))  -- sub-pieces
+    (λ c κs.
+    let w = c .before .before .before .before .loop .inv in
+    let l = c .before .before .before .loop-test .taken in
+    (top w l, top-element w l))  -- cut-in-two-requires
+    (λ c.
+    let e = c .before .before .before .before .before in
+    let w = e .before .before .before .before .before .before .loop .inv in
+    let l = e .before .before .before .before .before .loop-test .taken in
+    let t = e .before .cut-in-two .ensures .two (e .if1 .taken) in
+    omega (arith, t .less))  -- sub-pieces
     (λ c. search needs)  -- sub-pieces-2
     (λ c. search needs)  -- mul-pieces
     (λ c. search needs)  -- array-set-from-pieces
     (λ c.
-    let e = c .before .before .before .before in
-    let w = e .before .before .before .before .before .loop .inv in
-    let l = e .before .before .before .before .loop-test .taken in
+    let e = c .before .before .before .before .before in
+    let w = e .before .before .before .before .before .before .loop .inv in
+    let l = e .before .before .before .before .before .loop-test .taken in
     let t = e .before .cut-in-two .ensures .two (e .if1 .taken) in
     search (needs, piece-room w l t))  -- mul-pieces-2
     (λ c.
-    let e = c .before .before .before .before in
-    let w = e .before .before .before .before .before .loop .inv in
-    let l = e .before .before .before .before .loop-test .taken in
+    let e = c .before .before .before .before .before in
+    let w = e .before .before .before .before .before .before .loop .inv in
+    let l = e .before .before .before .before .before .loop-test .taken in
     let t = e .before .cut-in-two .ensures .two (e .if1 .taken) in
     piece-room w l t)  -- array-set-from-pieces-2
     (λ c. search needs)  -- add-count
     (λ c.
-    let e = c .before .before .before .before in
-    let w = e .before .before .before .before .before .loop .inv in
-    let l = e .before .before .before .before .loop-test .taken in
+    let e = c .before .before .before .before .before in
+    let w = e .before .before .before .before .before .before .loop .inv in
+    let l = e .before .before .before .before .before .loop-test .taken in
     let t = e .before .cut-in-two .ensures .two (e .if1 .taken) in
-    cut-less w l t)  -- loop-less
+    cut-less w l _ _ t)  -- loop-less
     (λ c.
-    let e = c .before .before .before .before in
-    let w = e .before .before .before .before .before .loop .inv in
-    let l = e .before .before .before .before .loop-test .taken in
+    let e = c .before .before .before .before .before in
+    let w = e .before .before .before .before .before .before .loop .inv in
+    let l = e .before .before .before .before .before .loop-test .taken in
     let t = e .before .cut-in-two .ensures .two (e .if1 .taken) in
-    splitting-cut w l t)  -- loop-again
-    (λ c κs. top (c .before .before .before .before .before .loop .inv) (c .before .before .before .before .loop-test .taken))  -- bar-requires
+    splitting-cut w l _ _ t (e .before .before .before .before .before .before .before .before .unknown .ensures) (e .before .cut-in-two .ensures .rest-known (e .if1 .taken)))  -- loop-again
+    (λ c κs. top (c .before .before .before .before .before .before .loop .inv) (c .before .before .before .before .before .loop-test .taken))  -- bar-requires
     (λ c κs.
     let e = c .before in
-    let w = e .before .before .before .before .before .loop .inv in
-    let l = e .before .before .before .before .loop-test .taken in
+    let w = e .before .before .before .before .before .before .loop .inv in
+    let l = e .before .before .before .before .before .loop-test .taken in
     whole-piece w l (c .bar .ensures) (e .before .cut-in-two .ensures .none (e .if1 .left)))  -- primary-part-requires
     (λ c κs.
     let e = c .before .before in
-    let w = e .before .before .before .before .before .loop .inv in
-    let l = e .before .before .before .before .loop-test .taken in
+    let w = e .before .before .before .before .before .before .loop .inv in
+    let l = e .before .before .before .before .before .loop-test .taken in
     (part-room w l, omega (arith, c .primary-part .ensures .held .room), arrays-fit w l))  -- insert-requires
     (λ c. search needs)  -- sub-count
     (λ c.
     let e = c .before .before .before in
-    let w = e .before .before .before .before .before .loop .inv in
-    let l = e .before .before .before .before .loop-test .taken in
+    let w = e .before .before .before .before .before .before .loop .inv in
+    let l = e .before .before .before .before .before .loop-test .taken in
     found-less w l)  -- loop-less-2
     (λ c.
     let e = c .before .before .before in
-    let w = e .before .before .before .before .before .loop .inv in
-    let l = e .before .before .before .before .loop-test .taken in
+    let w = e .before .before .before .before .before .before .loop .inv in
+    let l = e .before .before .before .before .before .loop-test .taken in
     splitting-found w l (c .before .primary-part .ensures) (c .insert .ensures .0) (c .insert .ensures .1))  -- loop-again-2
-    (λ c. splitting-done (c .before .before .before .pre) (c .before .loop .inv) (c .loop-test .left)))  -- returns
+    (λ c. splitting-done (c .before .before .before .before .pre) (c .before .loop .inv) (c .loop-test .left)))  -- returns
