@@ -23,6 +23,10 @@ use Rattle.pieces.specs.ArrayPieces.{listed-monic}
 use Rattle.writing.specs.Area.{Wrote, wrote-from-start}
 use Rattle.splitter.specs.declared.Outcome.{Outcome}
 
+-- "Success gives number 0, place 0 and the count of bytes written"
+abbrev pub IsSuccess : ℕ → Outcome → Type 0
+IsSuccess n r = r ≡ record { number = 0; place = 0; count = n }
+
 -- "a refused call counts 0"
 abbrev pub IsRefused : ℕ → ℕ → Outcome → Type 0
 IsRefused k at r = r ≡ record { number = k; place = at; count = 0 }
@@ -43,12 +47,12 @@ called-refused {o} {k} {at} {r} {area} e h = record {
   area = sym (ap (λ (a : calls.Outcome). calls.areaAfter a area) e);
 }
 
-pub called-wrote : {o : calls.Outcome} {bytes : List ℕ} {count : ℕ} {old new : List ℕ} → o ≡ calls.success bytes → Wrote old new 0 bytes count
-    → Called o (record { number = 0; place = 0; count = count }) old new
-called-wrote {old = old} e w = record {
-  number = sym (ap (λ (a : calls.Outcome). a .number) e);
-  place = sym (ap (λ (a : calls.Outcome). a .place) e);
-  count = wrote-from-start w .0 ∙ sym (ap calls.count e);
+pub called-wrote : {o : calls.Outcome} {bytes : List ℕ} {n : ℕ} {r : Outcome} {old new : List ℕ} → o ≡ calls.success bytes → IsSuccess n r
+    → Wrote old new 0 bytes n → Called o r old new
+called-wrote {old = old} e h w = record {
+  number = ap (λ (a : Outcome). a .number) h ∙ sym (ap (λ (a : calls.Outcome). a .number) e);
+  place = ap (λ (a : Outcome). a .place) h ∙ sym (ap (λ (a : calls.Outcome). a .place) e);
+  count = ap (λ (a : Outcome). a .count) h ∙ wrote-from-start w .0 ∙ sym (ap calls.count e);
   area = wrote-from-start w .1 ∙ sym (ap (λ (a : calls.Outcome). calls.areaAfter a old) e);
 }
 

@@ -10,7 +10,7 @@ ghost use Rattle.factors.specs.Cut.{Monics};
 ghost use Rattle.verdicts.specs.Given.{listed};
 ghost use Rattle.pieces.specs.Order.{Answers};
 ghost use Rattle.writing.specs.Area.{Wrote};
-ghost use Rattle.splitter.specs.Outcomes.{IsRefused, Called};
+ghost use Rattle.splitter.specs.Outcomes.{IsSuccess, IsRefused, Called};
 use reading::Candidate;
 use reading::find_candidate;
 use sheets::SheetRead;
@@ -23,6 +23,20 @@ pub struct Outcome {
     pub number: u8,
     pub place: usize,
     pub count: usize,
+}
+
+// Number 1: "The answer area is shorter than 384 bytes".
+pub const AREA: usize = 384;
+
+// A call that wrote its bytes.
+fn success(count: usize) -> Outcome
+    ensures { λ r. ⌜ IsSuccess count r ⌝ }
+{
+    Outcome {
+        number: 0,
+        place: 0,
+        count: count,
+    }
 }
 
 // A call that is turned back.
@@ -49,7 +63,7 @@ fn answer_to(out: &mut [u8], p: u8, d: usize, f: [u16; 33]) -> usize
 pub fn split(sheet: &[u8], area: &mut [u8]) -> Outcome
     ensures { λ r. ⌜ Called (splitCall (length (now (area .entry))) (now (sheet .entry))) r (now (area .entry)) (now (area .exit)) ⌝ }
 {
-    if area.len() < 384 {
+    if area.len() < AREA {
         return refused(1, 0);
     }
     let s = read_sheet(sheet);
@@ -57,12 +71,7 @@ pub fn split(sheet: &[u8], area: &mut [u8]) -> Outcome
         return refused(s.number, s.place);
     }
     let f = s.coefs;
-    let count = answer_to(area, s.prime, s.degree, f);
-    Outcome {
-        number: 0,
-        place: 0,
-        count: count,
-    }
+    success(answer_to(area, s.prime, s.degree, f))
 }
 
 // The first `count` bytes of b are the bytes of a.
@@ -88,7 +97,7 @@ fn is_answer(bytes: &[u8], p: u8, d: usize, f: [u16; 33]) -> bool
     requires { ⌜ Monics p f d ⌝ }
     ensures { λ r. ⌜ Answers r (now (bytes .entry) ≡ answer (sheetOf p (listed d f))) ⌝ }
 {
-    let mut own = [0u8; 384];
+    let mut own = [0u8; AREA];
     let count = answer_to(&mut own, p, d, f);
     same_bytes(bytes, &own, count)
 }
@@ -97,19 +106,14 @@ fn is_answer(bytes: &[u8], p: u8, d: usize, f: [u16; 33]) -> bool
 pub fn read(bytes: &[u8], area: &mut [u8]) -> Outcome
     ensures { λ r. ⌜ Called (readCall (length (now (area .entry))) (now (bytes .entry))) r (now (area .entry)) (now (area .exit)) ⌝ }
 {
-    if area.len() < 384 {
+    if area.len() < AREA {
         return refused(1, 0);
     }
     let c = find_candidate(bytes);
     if c.found {
         let f = c.coefs;
         if is_answer(bytes, c.prime, c.degree, f) {
-            let count = write_sheet(area, c.prime, c.degree, f);
-            return Outcome {
-                number: 0,
-                place: 0,
-                count: count,
-            };
+            return success(write_sheet(area, c.prime, c.degree, f));
         }
     }
     refused(9, 0)

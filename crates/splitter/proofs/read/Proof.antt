@@ -19,12 +19,13 @@ read-spec =
     (λ c κs.
     let m = c .before .before .before .before .before .find-candidate .ensures .sound (c .before .before .before .before .if2 .taken) in
     (omega (arith, m .fits), entry-byte m, omega (arith, c .before .before .before .before .before .before .if1 .left)))  -- write-sheet-requires
+    (λ c κs. search needs)  -- success-requires
     (λ c. search needs)  -- same-length
     (λ c.
-    let e = c .before .before .before .before in
+    let e = c .before .before .before .before .before in
     let found = e .before .before .before .if2 .taken in
     called-wrote (read-found _ _ (e .before .before .before .before .before .if1 .left) (e .before .before .before .before .find-candidate .ensures) found (e .before .is-answer .ensures .yes (e .if3 .taken)))
-    (c .before .before .write-sheet .ensures))  -- returns-2
+    (c .success .ensures) (c .before .before .before .write-sheet .ensures))  -- returns-2
     (λ c κs. search needs)  -- refused-requires-2
     (λ c.
     let candidate = c .before .before .find-candidate .ensures in
