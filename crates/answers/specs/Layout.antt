@@ -66,25 +66,26 @@ module _ (v : Verdict) (a b : Factor) where
       go Power q = refl
       go (Split k) q = absurd (subst T q tt)
 
-  -- the first counts in any case
-  pub first-factor-bytes : (rest : List ℕ) × (factorBytes (asFactor a) ++ rest ≡ flatMap factorBytes (asFactors v a b))
-  unfolding flatMap
-  first-factor-bytes = go v
-    where
-      go : (u : Verdict) → (rest : List ℕ) × (factorBytes (asFactor a) ++ rest ≡ flatMap factorBytes (asFactors u a b))
-      go Basic = ([], refl)
-      go Solid = ([], refl)
-      go Power = ([], refl)
-      go (Split k) = (flatMap factorBytes (asFactor b ∷ []), refl)
+  -- what g writes of each factor, one after the other
+  module _ (g : parts.Factor → List ℕ) where
+    -- the first counts in any case
+    pub first-factor-written : (rest : List ℕ) × (g (asFactor a) ++ rest ≡ flatMap g (asFactors v a b))
+    unfolding flatMap
+    first-factor-written = go v
+      where
+        go : (u : Verdict) → (rest : List ℕ) × (g (asFactor a) ++ rest ≡ flatMap g (asFactors u a b))
+        go Basic = ([], refl)
+        go Solid = ([], refl)
+        go Power = ([], refl)
+        go (Split k) = (flatMap g (asFactor b ∷ []), refl)
 
-  pub two-factors-bytes : isSplit v ≡ true → factorBytes (asFactor a) ++ factorBytes (asFactor b) ≡ flatMap factorBytes (asFactors v a b)
-  unfolding flatMap
-  two-factors-bytes e =
-      sym (ap (flatMap factorBytes) (split-factors e) ∙ ap (λ (l : List ℕ). factorBytes (asFactor a) ++ l) (append-nil (factorBytes (asFactor b))))
+    pub two-factors-written : isSplit v ≡ true → g (asFactor a) ++ g (asFactor b) ≡ flatMap g (asFactors v a b)
+    unfolding flatMap
+    two-factors-written e = sym (ap (flatMap g) (split-factors e) ∙ ap (λ (l : List ℕ). g (asFactor a) ++ l) (append-nil (g (asFactor b))))
 
-  pub one-factor-bytes : isSplit v ≡ false → factorBytes (asFactor a) ≡ flatMap factorBytes (asFactors v a b)
-  unfolding flatMap
-  one-factor-bytes e = sym (ap (flatMap factorBytes) (other-factors e) ∙ append-nil (factorBytes (asFactor a)))
+    pub one-factor-written : isSplit v ≡ false → g (asFactor a) ≡ flatMap g (asFactors v a b)
+    unfolding flatMap
+    one-factor-written e = sym (ap (flatMap g) (other-factors e) ∙ append-nil (g (asFactor a)))
 
 -- ---- the parts, one by one
 
@@ -99,7 +100,12 @@ module _ {A B : Type 0} (g : A → List B) where
       ap (flatMap g) (take-suc l i d u) ∙ flatMap-append (take i l) (getD l i d ∷ [])
       ∙ ap (λ (r : List B). flatMap g (take i l) ++ r) (unfold flatMap in append-nil (g (getD l i d)))
 
-flatMap-map : {A B C : Type 0} (g : B → List C) (h : A → B) (l : List A) → flatMap g (map h l) ≡ flatMap (λ (a : A). g (h a)) l
+-- a loop over an array writes what g makes of each entry; d is what is read past the array's end
+pub flat-turns : {A : Type 0} (g : A → List ℕ) (d : A) (xs : List A) (n : ℕ) → n ≤ length xs → Turns (λ i. flatMap g (take i xs)) (λ i. g (getD xs i d)) n
+unfolding flatMap
+flat-turns g d xs n l = record { none = refl; next = λ i u. flatMap-next g d xs i (omega arith) }
+
+pub flatMap-map : {A B C : Type 0} (g : B → List C) (h : A → B) (l : List A) → flatMap g (map h l) ≡ flatMap (λ (a : A). g (h a)) l
 unfolding flatMap
 flatMap-map g h [] = refl
 flatMap-map g h (a ∷ l) = ap (λ r. g (h a) ++ r) (flatMap-map g h l)
@@ -111,8 +117,7 @@ partsBytes xs = flatMap (λ (x : Part). partBytes (asPart x)) xs
 -- d is what is read past an array's end
 pub part-turns : (d : Part) (xs : List Part) (n : ℕ) → n ≤ length xs
     → Turns (λ i. partsBytes (take i xs)) (λ i. partBytes (asPart (getD xs i d))) n
-unfolding flatMap
-part-turns d xs n l = record { none = refl; next = λ i u. flatMap-next (λ (x : Part). partBytes (asPart x)) d xs i (omega arith) }
+part-turns d xs n l = flat-turns (λ (x : Part). partBytes (asPart x)) d xs n l
 
 -- ---- the whole
 

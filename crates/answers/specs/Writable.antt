@@ -9,7 +9,7 @@ use native.Mathlib.Omega.{arith}
 use lib.ListN.{length}
 use Rattle.specification.specs.Polynomials.{Poly, degree}
 use Rattle.specification.specs.Parts as parts
-use Rattle.specification.specs.Totals.{copies, members, listOf, different}
+use Rattle.specification.specs.Totals.{copies, members, listOf, total, different, freeDigits}
 use Rattle.specification.specs.Sheets.{sheetOf}
 use Rattle.specification.specs.Answers.{partBytes, totalBytes, answer}
 use Rattle.specification.specs.Promises.{Fits, GoodSheet}
@@ -64,12 +64,15 @@ module _ {p d : ℕ} {a : Parts} (h : Writable p d a) where
     repeated = λ x i. h .repeated (asPart x) (Memᴰ·map asPart i);
   }
 
+  -- what is counted are the three totals
+  pub counted-totals : {s z r : ℕ} → Counted (held a) s z r
+      → (s ≡ total (heldParts a)) × (z ≡ different (listOf (heldParts a))) × (r ≡ freeDigits (heldParts a))
+  counted-totals w = (w .factors ∙ sym (total-sum (held a)), w .different ∙ sym (h .apart ∙ records-sum (held a)), w .free ∙ sym (free-sum (held a)))
+
   -- the answer, as it is written
   pub answer-written : {s z r : ℕ} → Counted (held a) s z r
       → (0x01 ∷ p ∷ 0x02 ∷ d ∷ []) ++ partsBytes (held a) ++ endBytes s z r ≡ answerBytes p d (heldParts a)
-  answer-written w =
-      answer-is p d (held a) (w .factors ∙ sym (total-sum (held a))) (w .different ∙ sym (h .apart ∙ records-sum (held a)))
-      (w .free ∙ sym (free-sum (held a)))
+  answer-written w = let (e, f, g) = counted-totals w in answer-is p d (held a) e f g
 
   pub answer-room : {area : List ℕ} → 384 ≤ length area → Room area 0 (answerBytes p d (heldParts a))
   answer-room l = record { fits = omega (arith, h .fits .short); low = h .fits .low }

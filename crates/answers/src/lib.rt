@@ -1,5 +1,5 @@
 // The answer written into the lent area: "0x01, 0x02, then each part as 0x11 with its factors, then 0x13, 0x0F".
-// `write_answer` is public for the crates above, and no entry point of the library.
+// What is public is so for the crates above, and no entry point of the library.
 ghost use mathlib.Core.Path.{_≡_};
 ghost use mathlib.Core.List.{flatMap};
 ghost use Prim.Native.Nat.{_-_, _*_, _≤_, _<_};
@@ -23,10 +23,10 @@ use writing::put_three;
 use writing::write_coefficients;
 
 // "factors with repeats; different factors; free digits".
-struct Totals {
-    factors: usize,
-    different: usize,
-    free: usize,
+pub struct Totals {
+    pub factors: usize,
+    pub different: usize,
+    pub free: usize,
 }
 
 // 0x12: degree, how many times, and its 0x03 commands.
@@ -54,7 +54,7 @@ fn write_factors(out: &mut [u8], at: usize, v: Verdict, a: Factor, b: Factor) ->
 }
 
 // The second factor counts.
-fn is_split(v: Verdict) -> bool
+pub fn is_split(v: Verdict) -> bool
     ensures { λ r. ⌜ r ≡ isSplit v ⌝ }
 {
     match v {
@@ -136,7 +136,7 @@ fn part_totals(part: Part) -> Totals
 }
 
 // "Each total is counted from the list".
-fn count_totals(parts: Parts) -> Totals
+pub fn count_totals(parts: Parts) -> Totals
     requires { ⌜ (parts .count ≤ 32) × Countable (held parts) ⌝ }
     ensures { λ r. ⌜ Counted (held parts) (r .factors) (r .different) (r .free) ⌝ }
 {

@@ -1,12 +1,13 @@
 -- The edges of document 01, with a row at least for each of the numbers 1 to 9, as one table with one theorem.
 -- A row has the call, the length of the answer area, the bytes handed in, and the number and place that come back.
--- Then the program's example there and back, and the order of item 3 where degrees are equal.
+-- Then the program's example there, back and in lines, and the order of item 3 where degrees are equal.
 use mathlib.Core.Path.{_≡_, refl}
 use Prim.Native.Nat.{ℕ}
 use mathlib.Core.List.{List, [], _∷_, _++_, map}
 use Rattle.specification.specs.Open.{everything}
 use Rattle.specification.specs.Powers.{monics}
 use Rattle.specification.specs.Calls.{Outcome, success, splitCall, readCall}
+use Rattle.specification.specs.Text.{ascii, printed}
 
 -- a row of the table
 pub record Edge : Type 0 where
@@ -90,6 +91,27 @@ example-answered = refl
 pub example-read : readCall 384 exampleAnswer ≡ success example
 unfolding everything
 example-read = refl
+
+-- its lines: "it prints exactly"
+pub example-printed : printed example ≡ ascii "prime 3 degree 3\npart 1 3 split\nfactor 2 1 1\nfactor 1 4 1\ntotal 3 different 2 free 2\n"
+unfolding everything
+example-printed = refl
+
+-- x² + 1 modulo 25, x² + 2 and x² modulo 4: numbers of two digits, and the verdict words that the example has not
+pub words-printed :
+    map printed
+    ((0x01 ∷ 5 ∷ 0x02 ∷ 2 ∷ 0x03 ∷ 0 ∷ 1 ∷ 0x0F ∷ []) ∷ (0x01 ∷ 2 ∷ 0x02 ∷ 2 ∷ 0x03 ∷ 0 ∷ 2 ∷ 0x0F ∷ []) ∷ (0x01 ∷ 2 ∷ 0x02 ∷ 2 ∷ 0x0F ∷ []) ∷ [])
+    ≡ ascii "prime 5 degree 2\npart 1 1 basic\nfactor 1 7 1\npart 1 1 basic\nfactor 1 18 1\ntotal 2 different 2 free 0\n"
+    ∷ ascii "prime 2 degree 2\npart 1 2 solid\nfactor 1 2 0 1\ntotal 1 different 1 free 0\n"
+    ∷ ascii "prime 2 degree 2\npart 1 2 power\nfactor 2 0 1\ntotal 2 different 1 free 1\n"
+    ∷ []
+unfolding everything
+words-printed = refl
+
+-- "01 04 gives `refused 4 at 1`"
+pub refusal-printed : printed (0x01 ∷ 4 ∷ []) ≡ ascii "refused 4 at 1\n"
+unfolding everything
+refusal-printed = refl
 
 -- x³ + 2x² + x modulo 4: basic x, then a later part that is split as the first is; power: x + 1 twice
 pub later-part-answered :

@@ -14,6 +14,7 @@ pub mod FactorList
 pub mod Calls
 pub mod Claims
 pub mod Promises
+pub mod Text
 pub mod Open
 pub mod Trials
 pub mod Edges

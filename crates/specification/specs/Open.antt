@@ -15,6 +15,8 @@ use Rattle.specification.specs.Sheets.{step, atEnd, readFrom, readSheet,
 use Rattle.specification.specs.Answers.{factorBytes, partBytes, totalBytes, answer}
 use Rattle.specification.specs.FactorList.{operandCount, commandsAfter, withCoefficients, factorsIn, totalIn, factorList, factorTotal, differentTotal}
 use Rattle.specification.specs.Calls.{answerTo, splitCall, sheetIn, isAnswerTo, readCall}
+use Rattle.specification.specs.Text.{lastDigits, decimal, headText, coefficientText, factorText, partText, totalText, partsText, answerText}
+use Rattle.specification.specs.Text.{refusalText, printed}
 
 unfoldable pub everything : Unit {0}
 unfolding
@@ -33,4 +35,5 @@ unfolding
     factorBytes partBytes totalBytes answer
     operandCount commandsAfter withCoefficients factorsIn totalIn factorList factorTotal differentTotal
     answerTo splitCall sheetIn isAnswerTo readCall
+    lastDigits decimal headText coefficientText factorText partText totalText partsText answerText refusalText printed
 everything = tt

@@ -67,7 +67,7 @@ module _ (s : Sheet) (g : promises.GoodSheet s) where
       })
 
   -- the parts' degrees add up to the degree of f
-  parts-degrees : partDegrees (sheetParts s) ≡ degree (s .poly)
+  pub parts-degrees : partDegrees (sheetParts s) ≡ degree (s .poly)
   unfolding partsOf
   parts-degrees =
       omega (

@@ -3,7 +3,8 @@
 use mathlib.Core.Path.{sym, _∙_}
 use borrow.Author.Needs.{needs}
 use Rattle.writing.specs.Area.{wrote-more, wrote-as, room-as, room-first, room-next}
-use Rattle.answers.specs.Layout.{first-factor-bytes, two-factors-bytes, one-factor-bytes}
+use Rattle.specification.specs.Answers.{factorBytes}
+use Rattle.answers.specs.Layout.{first-factor-written, two-factors-written, one-factor-written}
 use Rattle.answers.proofs.write_factors.Statement.{statement}
 use Rattle.answers.proofs.write_factors.Tie as tie
 
@@ -14,13 +15,13 @@ write-factors-spec =
     (λ c κs. search needs)  -- is-split-requires
     (λ c κs.
     let start = c .before .before .before in
-    let (rest, is) = first-factor-bytes (start .args .v) (start .args .a) (start .args .b) in
+    let (rest, is) = first-factor-written (start .args .v) (start .args .a) (start .args .b) factorBytes in
     (start .pre .0, room-first _ rest (room-as is (start .pre .2))))  -- write-factor-requires
     (λ c κs.
     let start = c .before .before .before .before .before .before .before .before in
     let split = sym (c .before .before .before .before .before .before .is-split .ensures) ∙ c .before .if1 .taken in (
       start .pre .1,
-      room-next _ _ (room-as (two-factors-bytes (start .args .v) (start .args .a) (start .args .b) split) (start .pre .2))
+      room-next _ _ (room-as (two-factors-written (start .args .v) (start .args .a) (start .args .b) factorBytes split) (start .pre .2))
           (c .before .before .before .before .write-factor .ensures),
     ))  -- write-factor-requires-2
     (λ c. search needs)  -- same-length
@@ -28,10 +29,11 @@ write-factors-spec =
     let after-first = c .before .before .before .before .before .before .before in
     let start = after-first .before .before .before .before in
     let split = sym (after-first .before .before .is-split .ensures) ∙ c .before .before .before .before .if1 .taken in
-    wrote-as (two-factors-bytes (start .args .v) (start .args .a) (start .args .b) split)
+    wrote-as (two-factors-written (start .args .v) (start .args .a) (start .args .b) factorBytes split)
     (wrote-more (after-first .write-factor .ensures) (c .before .before .write-factor2 .ensures)))  -- returns
     (λ c. search needs)  -- same-length-2
     (λ c.
     let start = c .before .before .before .before .before .before .before in
     let other = sym (c .before .before .before .before .before .is-split .ensures) ∙ c .if1 .left in
-    wrote-as (one-factor-bytes (start .args .v) (start .args .a) (start .args .b) other) (c .before .before .before .write-factor .ensures)))  -- returns-2
+    wrote-as (one-factor-written (start .args .v) (start .args .a) (start .args .b) factorBytes other)
+    (c .before .before .before .write-factor .ensures)))  -- returns-2

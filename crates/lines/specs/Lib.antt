@@ -1,0 +1,4 @@
+pub mod Decimal
+pub mod Layout
+pub mod TextSize
+pub mod Printed

@@ -1,0 +1,84 @@
+-- The text that the program `split` prints for the bytes it is given, in ASCII: `printed`.
+-- Numbers are in base ten; a space stands between words and numbers, and each line ends with a line feed.
+use Prim.Native.Nat.{ℕ, zero, suc, _+_, _/_, _%_}
+use Prim.Native.Char.{code}
+use Prim.Native.String as string
+use mathlib.Core.Bool.{true, false}
+use mathlib.Core.List.{List, [], _∷_, _++_, flatMap}
+use lib.Dec.{ltb}
+use Rattle.specification.specs.Polynomials.{Poly, degree}
+use Rattle.specification.specs.Parts.{Verdict, basic, solid, power, split, Factor, Part, partsOf}
+use Rattle.specification.specs.Totals.{listOf, total, different, freeDigits}
+use Rattle.specification.specs.Sheets.{Sheet, accepted, fault, readSheet}
+
+-- ---- words and numbers
+
+-- a text's characters, one byte each
+abbrev pub ascii : string.String → List ℕ
+ascii string.[] = []
+ascii (string._∷_ c s) = code c ∷ ascii s
+
+-- the digit d: "0" is 48
+abbrev pub digit : ℕ → ℕ
+digit d = 48 + d
+
+-- the last digits of n, k at most: those before the last are the digits of n / 10
+unfoldable pub lastDigits : ℕ → ℕ → List ℕ
+lastDigits zero n = []
+lastDigits (suc k) n = elim (ltb n 10) [ true ↦ digit n ∷ [] | false ↦ lastDigits k (n / 10) ++ (digit (n % 10) ∷ []) ]
+
+-- n in base ten, with no zeros before it: it has no more than n + 1 digits
+unfoldable pub decimal : ℕ → List ℕ
+decimal n = lastDigits (suc n) n
+
+-- a number after its word
+abbrev pub item : string.String → ℕ → List ℕ
+item word n = ascii word ++ decimal n
+
+-- ---- the lines of an answer
+
+-- "prime 3 degree 3"
+unfoldable pub headText : ℕ → ℕ → List ℕ
+headText p d = item "prime " p ++ item " degree " d ++ ascii "\n"
+
+-- "verdict word (basic, solid, power, split)", at the end of its line
+abbrev pub verdictText : Verdict → List ℕ
+verdictText basic = ascii " basic\n"
+verdictText solid = ascii " solid\n"
+verdictText power = ascii " power\n"
+verdictText (split m1) = ascii " split\n"
+
+-- each coefficient after a space
+unfoldable pub coefficientText : Poly → List ℕ
+coefficientText f = flatMap (item " ") f
+
+-- "`factor`: times, then coefficients from the constant up to the leading 1"
+unfoldable pub factorText : Factor → List ℕ
+factorText q = item "factor " (q .times) ++ coefficientText (q .poly) ++ ascii "\n"
+
+-- "`part`: degree of G, power m, verdict word", and the lines of the part's factors
+unfoldable pub partText : Part → List ℕ
+partText P =
+    item "part " (degree (P .base)) ++ item " " (P .exponent) ++ verdictText (P .splitting .verdict) ++ flatMap factorText (P .splitting .factors)
+
+-- "The last line holds the three totals"
+unfoldable pub totalText : ℕ → ℕ → ℕ → List ℕ
+totalText s z r = item "total " s ++ item " different " z ++ item " free " r ++ ascii "\n"
+
+-- the lines for a prime, a degree and the parts
+unfoldable pub partsText : ℕ → ℕ → List Part → List ℕ
+partsText p d Ps = headText p d ++ flatMap partText Ps ++ totalText (total Ps) (different (listOf Ps)) (freeDigits Ps)
+
+-- the lines for a sheet
+unfoldable pub answerText : Sheet → List ℕ
+answerText s = partsText (s .prime) (degree (s .poly)) (partsOf (s .prime) (s .poly))
+
+-- ---- the program
+
+-- "A refusal prints `refused` number `at` place"
+unfoldable pub refusalText : ℕ → ℕ → List ℕ
+refusalText k at = item "refused " k ++ item " at " at ++ ascii "\n"
+
+-- "`split` reads one sheet from standard input": what it prints for the bytes there
+unfoldable pub printed : List ℕ → List ℕ
+printed bytes = elim (readSheet bytes) [ accepted s ↦ answerText s | fault k at ↦ refusalText k at ]
