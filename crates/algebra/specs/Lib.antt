@@ -13,6 +13,7 @@ pub mod Leading
 pub mod Tests
 pub mod ListLaws
 pub mod Fields
+pub mod TakenPrimes
 pub mod Bezout
 pub mod Homomorphisms
 pub mod Extension

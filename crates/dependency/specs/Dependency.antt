@@ -100,7 +100,9 @@ module _ {p : ℕ} (P : Prime p) {images : List Image} {first d i : ℕ} {rows :
     within = omega arith;
     slots = h .len ∙ S .slots;
     reduced = reduced-stored P (S .reduced) h;
-    stage = rw add-one (stage-stored P (S .above) l (omega (arith, same-size, R .reduced .reach)) (omega (arith, same-size)) free (rw next (below-size p Z)) (S .stage) reducing h);
+    stage = rw add-one
+        (stage-stored P (S .above) l (omega (arith, same-size, R .reduced .reach)) (omega (arith, same-size)) free (rw next (below-size p Z)) (S .stage)
+        reducing h);
   }
     where
       next : suc (s - 1) ≡ s

@@ -35,7 +35,8 @@ pub record ReducedBy (p d i : ℕ) (rows : List Row) (v r : Row) : Type 0 where
   pub free : 0 < terms → imageAt p rows (terms - 1) ≡ 𝟎
 
 module _ {p d i : ℕ} {rows : List Row} {v : Row} where
-  pub reduced-none : {k : ℕ} → Reduced p 33 (v .image) → Reduced p 33 (v .preimage) → Below d (poly p (v .image)) → Size (v .image) k → ReducedTo p d i rows v k v
+  pub reduced-none : {k : ℕ} → Reduced p 33 (v .image) → Reduced p 33 (v .preimage) → Below d (poly p (v .image)) → Size (v .image) k
+      → ReducedTo p d i rows v k v
   reduced-none hi hp l z = record {
     reach = size-small hi l z;
     image = hi;

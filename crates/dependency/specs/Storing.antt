@@ -1,6 +1,6 @@
--- What `store` does: `Stored p rows v k r`, r is rows with a multiple of v, monic of degree k, in slot k.
--- Proves it of the code's row, and that the stage of a search goes on with it. Assumes nothing.
-use mathlib.Core.Path.{_≡_, _∙_, ap}
+-- A row put into its slot: `MonicRow p v k r`, r is a multiple of v with a monic image of degree k; `Stored p rows v k r`, r is rows with such a row in slot k.
+-- Proves the first of the code's row, and that the stage of a search goes on with the second. Assumes nothing.
+use mathlib.Core.Path.{_≡_, sym, _∙_, ap, subst}
 use mathlib.Core.List.{List}
 use mathlib.Core.Logic.{_≢_}
 use Prim.Native.Nat.{ℕ, suc, _<_, _≤_, _*_ as _*ℕ_, _%_}
@@ -20,47 +20,50 @@ use Rattle.dependency.specs.declared.Row.{Row}
 use Rattle.modular.specs.Inverse.{residue-inverse}
 use Rattle.dependency.specs.Rows.{past, imageAt, preimageAt, ReducedRows, represents-multiple}
 
-pub record Stored (p : ℕ) (rows : List Row) (v : Row) (k : ℕ) (r : List Row) : Type 0 where
+pub record MonicRow (p : ℕ) (v : Row) (k : ℕ) (r : Row) : Type 0 where
   pub scale : ℤ/ p
   pub unit : (Residues p) .mul scale (poly p (v .image) .coef k) ≡ (Residues p) .𝟙
+  pub image : poly p (r .image) ≡ constant scale · poly p (v .image)
+  pub preimage : poly p (r .preimage) ≡ constant scale · poly p (v .preimage)
+  pub reduced : Reduced p 33 (r .image)
+
+pub record Stored (p : ℕ) (rows : List Row) (v : Row) (k : ℕ) (r : List Row) : Type 0 where
+  pub row : MonicRow p v k (getD r k past)
   pub len : length r ≡ length rows
-  pub image : imageAt p r k ≡ constant scale · poly p (v .image)
-  pub preimage : preimageAt p r k ≡ constant scale · poly p (v .preimage)
-  pub reduced : Reduced p 33 ((getD r k past) .image)
   pub other : (j : ℕ) → j ≢ k → getD r j past ≡ getD rows j past
 
+pub row-stored : {p : ℕ} {rows : List Row} {v : Row} {k : ℕ} {w : Row} → k < length rows → MonicRow p v k w → Stored p rows v k (set rows k w)
+row-stored {p} {rows} {v} {k} {w} l h = record {
+  row = subst (MonicRow p v k) (sym (getD-set-same rows k w past l)) h;
+  len = length-set rows k w;
+  other = λ j ne. getD-set-other rows k j w past ne;
+}
+
+-- c is the inverse of the leading coefficient
+pub monic-row : {p : ℕ} → Prime p → {v : Row} {k : ℕ} (c : ℕ) {u w : List ℕ} → getD (v .image) k 0 *ℕ c % p ≡ 1
+    → Represents p u (poly p (replicate 33 0) + constant (residue p c) · (x^ 0 · poly p (v .image)))
+    → Represents p w (poly p (replicate 33 0) + constant (residue p c) · (x^ 0 · poly p (v .preimage)))
+    → MonicRow p v k (record { image = u; preimage = w })
+monic-row {p} P {v} {k} c e hu hw = record {
+  scale = residue p c;
+  unit = ap ((Residues p) .mul (residue p c)) (coef-poly p (v .image) k) ∙ residue-inverse P (getD (v .image) k 0) c e;
+  image = represents-multiple (prime-pos P) (poly p (v .image)) c hu;
+  preimage = represents-multiple (prime-pos P) (poly p (v .preimage)) c hw;
+  reduced = hu .reduced;
+}
+
 module _ {p : ℕ} (P : Prime p) {rows : List Row} {v : Row} {k : ℕ} where
-  -- c is the inverse of the leading coefficient
-  pub row-stored : (c : ℕ) {u w : List ℕ} → k < length rows → getD (v .image) k 0 *ℕ c % p ≡ 1
-      → Represents p u (poly p (replicate 33 0) + constant (residue p c) · (x^ 0 · poly p (v .image)))
-      → Represents p w (poly p (replicate 33 0) + constant (residue p c) · (x^ 0 · poly p (v .preimage)))
-      → Stored p rows v k (set rows k (record { image = u; preimage = w }))
-  row-stored c {u} {w} l e hu hw = record {
-    scale = residue p c;
-    unit = ap ((Residues p) .mul (residue p c)) (coef-poly p (v .image) k) ∙ residue-inverse P (getD (v .image) k 0) c e;
-    len = length-set rows k row;
-    image = ap (λ (r : Row). poly p (r .image)) here ∙ represents-multiple (prime-pos P) (poly p (v .image)) c hu;
-    preimage = ap (λ (r : Row). poly p (r .preimage)) here ∙ represents-multiple (prime-pos P) (poly p (v .preimage)) c hw;
-    reduced = rw here (hu .reduced);
-    other = λ j ne. getD-set-other rows k j row past ne;
-  }
-    where
-      row : Row
-      row = record { image = u; preimage = w }
-
-      here : getD (set rows k row) k past ≡ row
-      here = getD-set-same rows k row past l
-
   pub reduced-stored : {r : List Row} → ReducedRows p rows → Stored p rows v k r → ReducedRows p r
   reduced-stored {r} R h j l = at (ℕ-discrete j k)
     where
       at : Dec (j ≡ k) → Reduced p 33 ((getD r j past) .image)
-      at (yes e) = rw e (h .reduced)
+      at (yes e) = rw e (h .row .reduced)
       at (no ne) = rw (h .other j ne) (R j l)
 
-  pub stage-stored : {t : ℕ → ℤ[x]/ p} {m n o i κ : ℕ} {r : List Row} → o ≤ i → i < m → k < n → κ ≤ suc k → imageAt p rows k ≡ 𝟎 → Below (suc k) (poly p (v .image))
+  pub stage-stored : {t : ℕ → ℤ[x]/ p} {m n o i κ : ℕ} {r : List Row} → o ≤ i → i < m → k < n → κ ≤ suc k → imageAt p rows k ≡ 𝟎
+      → Below (suc k) (poly p (v .image))
       → Stage t m n o (imageAt p rows) (preimageAt p rows) i → Reducing t m n o (imageAt p rows) i κ (poly p (v .image)) (poly p (v .preimage))
       → Stored p rows v k r → Stage t m n o (imageAt p r) (preimageAt p r) (suc i)
   stage-stored {t} {m} {n} {o} first last fits level free small S D h =
-      stage-more t m n o S D (residue-field p P) first last k fits level free (h .scale) (h .unit) small (h .image) (h .preimage)
+      stage-more t m n o S D (residue-field p P) first last k fits level free (h .row .scale) (h .row .unit) small (h .row .image) (h .row .preimage)
       (λ j ne. ap (λ (r : Row). poly p (r .image)) (h .other j ne)) (λ j ne. ap (λ (r : Row). poly p (r .preimage)) (h .other j ne))

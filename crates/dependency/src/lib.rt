@@ -12,7 +12,7 @@ ghost use Rattle.algebra.specs.CoefficientLists.{poly, Reduced};
 ghost use Rattle.dependency.specs.Monomials.{IsMonomial};
 ghost use Rattle.dependency.specs.Rows.{free, Rows};
 ghost use Rattle.dependency.specs.Reduction.{ReducedBy};
-ghost use Rattle.dependency.specs.Storing.{Stored};
+ghost use Rattle.dependency.specs.Storing.{MonicRow};
 ghost use Rattle.dependency.specs.Dependency.{Images, DependencyFound};
 
 // The image of one x^i.
@@ -84,11 +84,11 @@ pub fn reduce_by_rows(rows: [Row; 33], v: Row, i: usize, d: usize, p: u16) -> Ro
     }
 }
 
-// The rows with v, an image of degree k, made monic and put into slot k. The preimage is of degree i.
-pub fn store(rows: [Row; 33], v: Row, k: usize, i: usize, p: u16) -> [Row; 33]
+// v, with an image of degree k, made monic. The preimage is of degree i.
+pub fn monic_row(v: Row, k: usize, i: usize, p: u16) -> Row
     requires { ⌜ Prime p × (k < 33) × (i < 33) × Reduced p 33 (v .image) × (0 < getD (v .image) k 0)
         × Below (k +ℕ 1) (poly p (v .image)) × Below (i +ℕ 1) (poly p (v .preimage)) ⌝ }
-    ensures { λ r. ⌜ Stored p rows v k r ⌝ }
+    ensures { λ r. ⌜ MonicRow p v k r ⌝ }
 {
     let zero = [0u16; 33];
     let a = v.image;
@@ -96,13 +96,10 @@ pub fn store(rows: [Row; 33], v: Row, k: usize, i: usize, p: u16) -> [Row; 33]
     let c = inverse(a[k], p);
     let u = add_multiple(zero, c, a, 0, k + 1, p);
     let w = add_multiple(zero, c, b, 0, i + 1, p);
-    let row = Row {
+    Row {
         image: u,
         preimage: w,
-    };
-    let mut r = rows;
-    r[k] = row;
-    r
+    }
 }
 
 // The least dependency among the polynomials with terms of degree first to d - 1.
@@ -131,8 +128,8 @@ pub fn least_dependency(images: [Image; 33], first: usize, d: usize, p: u16) -> 
                 v: w,
             };
         }
-        let more = store(rows, v, s - 1, i, p);
-        rows = more;
+        let row = monic_row(v, s - 1, i, p);
+        rows[s - 1] = row;
         i += 1;
     }
     Found {

@@ -1,4 +1,3 @@
-pub mod TakenPrimes
 pub mod MonicMultiples
 pub mod Rows
 pub mod DividedRow

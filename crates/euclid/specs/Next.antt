@@ -8,8 +8,9 @@ use Rattle.algebra.specs.Divisibility.{divides-mul, divides-add}
 use Rattle.algebra.specs.Residues.{Residues}
 use Rattle.algebra.specs.Polynomials.{PolyRing}
 use Rattle.modular.specs.Coefficients.{Size}
+use Rattle.modular.specs.Arrays.{size-small}
 use Rattle.euclid.specs.MonicMultiples.{divides-back}
-use Rattle.euclid.specs.Rows.{MonicRow, Formed, Combined, size-below, leaves-monic}
+use Rattle.euclid.specs.Rows.{MonicRow, Formed, Combined, leaves-monic}
 use Rattle.euclid.specs.DividedRow.{Operands, DividedRow, leaves-divided}
 use Rattle.euclid.specs.declared.Row.{Row}
 use Rattle.euclid.specs.declared.Rows.{Rows}
@@ -40,9 +41,9 @@ next-rows {p} {b} formed pos monic divided size = record {
     monic = monic .remainder .monic;
     limit = omega (arith, formed .limit, formed .fewer);
     size = size;
-    fewer = size-below (divided .reduced .remainder) size (divided .small);
+    fewer = size-small (divided .reduced .remainder) (divided .small) size;
   };
-  falls = omega (arith, size-below (divided .reduced .remainder) size (divided .small));
+  falls = omega (arith, size-small (divided .reduced .remainder) (divided .small) size);
   combined = λ a before. record {
     former = leaves-monic a b monic (before .latter);
     latter = leaves-divided p a b divided (before .former) (leaves-monic a b monic (before .latter));

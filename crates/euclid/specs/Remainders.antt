@@ -11,9 +11,9 @@ use Rattle.algebra.specs.Degree.{Below, Monic}
 use Rattle.algebra.specs.CoefficientLists.{ℤ[x]/, poly, Reduced}
 use Rattle.algebra.specs.Congruence.{congruent-sym, divides-congruent}
 use Rattle.modular.specs.Coefficients.{Size}
+use Rattle.modular.specs.Arrays.{size-small}
 use Rattle.quotients.specs.Remainder.{Remainder}
 use Rattle.euclid.specs.MonicMultiples.{MonicMultipleOf, divides-back}
-use Rattle.euclid.specs.Rows.{size-below}
 use Rattle.euclid.specs.declared.Remainders.{Remainders}
 
 -- the former is monic, and the latter of lower degree
@@ -48,9 +48,9 @@ after {p} {c} {f = f} h pos m left size = record {
     fits = omega (arith, h .fits, h .fewer);
     monic = m .monic;
     size = size;
-    fewer = size-below (left .reduced) size (left .small);
+    fewer = size-small (left .reduced) (left .small) size;
   };
-  falls = omega (arith, size-below (left .reduced) size (left .small));
+  falls = omega (arith, size-small (left .reduced) (left .small) size);
   lower = omega (arith, h .fewer);
   same = λ a b before. record {
     up = λ k hf hr.
@@ -71,7 +71,7 @@ module _ (p : ℕ) (a b : List ℕ) (d s : ℕ) where
   start = record { former = b; degree = d; latter = a; size = s }
 
   pub successive-first : d < 33 → Reduced p 33 a → Reduced p 33 b → Below d (poly p a) → Monic d (poly p b) → Size a s → Successive p start
-  successive-first fits ha hb h m z = record { former = hb; latter = ha; fits = fits; monic = m; size = z; fewer = size-below ha z h }
+  successive-first fits ha hb h m z = record { former = hb; latter = ha; fits = fits; monic = m; size = z; fewer = size-small ha h z }
 
   pub same-first : SameDivisors p a b start
   same-first = record { up = λ h hb ha. (ha, hb); down = λ h ha hb. (hb, ha) }

@@ -1,23 +1,22 @@
 -- The remainders of Euclid's algorithm for a and b over ℤ/p: `Leaves`, what a row says; `MonicRow`, a row made monic; `Formed` and
 -- `Combined`, the shape of two successive rows, and what they have to do with a and b.
 -- Proves that a row made monic says the same, and that b and a are the first two remainders. Assumes nothing.
-use mathlib.Core.Path.{_≡_, refl, sym, _∙_, ap}
+use mathlib.Core.Path.{_≡_, refl, _∙_, ap}
 use mathlib.Core.List.{List, _∷_}
-use mathlib.Core.Logic.{⊎-elim}
 use Prim.Native.Nat.{ℕ, _≤_, _<_, _-_}
-use native.Mathlib.Nat.{mod-eq-of-lt, zero-mod, le-refl}
+use native.Mathlib.Nat.{le-refl}
 use native.Mathlib.Omega.{arith}
-use lib.ListN.{getD, replicate}
+use lib.ListN.{replicate}
 use Rattle.algebra.specs.Ring.{zero-mul, one-mul}
 use Rattle.algebra.specs.Identities.{_⊗_, _≈_, solve}
 use Rattle.algebra.specs.Divisibility.{_∣_, divides-refl}
-use Rattle.algebra.specs.Numbers.{lt-or-le}
-use Rattle.algebra.specs.Residues.{residue, Residues, residue-zero, same-remainder}
+use Rattle.algebra.specs.Residues.{residue, Residues}
 use Rattle.algebra.specs.Polynomials.{PolyRing, _·_, constant}
 use Rattle.algebra.specs.Degree.{Below, Monic, below-up, below-constant-mul, below-𝟎}
-use Rattle.algebra.specs.CoefficientLists.{ℤ[x]/, poly, Reduced, coef-poly}
+use Rattle.algebra.specs.CoefficientLists.{ℤ[x]/, poly, Reduced}
 use Rattle.algebra.specs.Congruence.{Congruent, congruent-sym, congruent-equal, congruent-mul, congruent-zero}
 use Rattle.modular.specs.Coefficients.{Represents, Size, zeros, below-unit}
+use Rattle.modular.specs.Arrays.{size-small}
 use Rattle.quotients.specs.Power.{one}
 use Rattle.euclid.specs.MonicMultiples.{MonicMultipleOf}
 use Rattle.euclid.specs.declared.Row.{Row}
@@ -68,16 +67,6 @@ first a b d s = record {
 
 module _ {p : ℕ} where
   -- a bound on the terms is one on the size
-  pub size-below : {a : List ℕ} {s k : ℕ} → Reduced p 33 a → Size a s → Below k (poly p a) → s ≤ k
-  size-below {a} {s} {k} r z h = ⊎-elim (λ l. absurd (z .top (omega arith) (nothing l))) (λ l. l) (lt-or-le k s)
-    where
-      nothing : k < s → getD a (s - 1) 0 ≡ 0
-      nothing l =
-          sym (mod-eq-of-lt (r .low (s - 1)))
-          ∙ same-remainder p (omega (arith, r .low 0)) (getD a (s - 1) 0) 0
-          (sym (coef-poly p a (s - 1)) ∙ h .high (s - 1) (omega arith) ∙ sym (residue-zero p))
-          ∙ zero-mod p
-
   pub monic-row : {d s c : ℕ} {r f : Row} → ReducedRow p d r → MonicMultipleOf p (r .remainder) s (f .remainder) c
       → Represents p (f .cofactor) (constant (residue p c) · poly p (r .cofactor)) → MonicRow p d s r f
   monic-row {c = c} h m k = record {
@@ -108,7 +97,7 @@ module _ (p : ℕ) (a b : List ℕ) (d s : ℕ) where
     monic = m;
     limit = le-refl d;
     size = z;
-    fewer = size-below ha z h;
+    fewer = size-small ha h z;
   }
 
   pub combined-first : 1 < p → Combined p a b (first a b d s)

@@ -13,12 +13,12 @@ use Rattle.algebra.specs.Residues.{Residues}
 use Rattle.algebra.specs.Polynomials.{PolyRing, _+_, _·_}
 use Rattle.algebra.specs.Degree.{Monic}
 use Rattle.algebra.specs.Homomorphisms.{monic-map}
-use Rattle.algebra.specs.CoefficientLists.{ℤ[x]/, poly, Reduced}
+use Rattle.algebra.specs.CoefficientLists.{poly, Reduced}
 use Rattle.frobenius.specs.SplittingElements.{SplittingElement}
 use Rattle.frobenius.specs.Unsplit.{Unsplit}
 use Rattle.theorems.specs.Reductions.{coefficients, bar-poly}
 use Rattle.modular.specs.Coefficients.{Represents, zeros}
-use Rattle.euclid.specs.TakenPrimes.{is-prime}
+use Rattle.algebra.specs.TakenPrimes.{is-prime}
 use Rattle.splitting.specs.declared.Element.{Element}
 use Rattle.splitting.specs.Elements.{Known, ForFactor}
 use Rattle.halves.specs.Splitting.{Split, HalvesOf}

@@ -87,7 +87,8 @@ module _ {R : Type 0} {𝓡 : CommRing R} (t : ℕ → Poly 𝓡) (m n o : ℕ) 
           go (no z) = let (d, unit) = field .inverse (v .coef i) z in absurd (ne (rows-span v h e d unit))
 
       -- u, of degree k, is made monic and put into slot k, which is free, and w with it
-      module _ {r′ s′ : ℕ → Poly 𝓡} (k : ℕ) (fits : k < n) (level : κ ≤ suc k) (free : r k ≡ 𝟎) (c : R) (unit : 𝓡 .mul c (u .coef k) ≡ 𝓡 .𝟙) (small : Below (suc k) u)
+      module _ {r′ s′ : ℕ → Poly 𝓡} (k : ℕ) (fits : k < n) (level : κ ≤ suc k) (free : r k ≡ 𝟎) (c : R)
+          (unit : 𝓡 .mul c (u .coef k) ≡ 𝓡 .𝟙) (small : Below (suc k) u)
           (row : r′ k ≡ constant c · u) (pre : s′ k ≡ constant c · w)
           (rows : (j : ℕ) → j ≢ k → r′ j ≡ r j) (pres : (j : ℕ) → j ≢ k → s′ j ≡ s j) where
         nonzero : u .coef k ≢ 𝓡 .𝟘

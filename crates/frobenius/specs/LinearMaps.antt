@@ -9,7 +9,22 @@ use native.Mathlib.Omega.{arith}
 use Rattle.algebra.specs.Ring.{CommRing, ring, zero-mul, mul-zero, add-zero, add-neg, neg-unique}
 use Rattle.algebra.specs.Identities.{_⊕_, _⊖_, _⊗_, _≈_, solve}
 use Rattle.algebra.specs.Divisibility.{_∣_}
-use Rattle.algebra.specs.Polynomials.{Poly, PolyRing, _+_, _·_, -_, 𝟎, constant, coef-zero, coef-add, coef-constant-mul, constant-zero, constant-one, constant-add, constant-mul}
+use Rattle.algebra.specs.Polynomials.{
+  Poly,
+  PolyRing,
+  _+_,
+  _·_,
+  -_,
+  𝟎,
+  constant,
+  coef-zero,
+  coef-add,
+  coef-constant-mul,
+  constant-zero,
+  constant-one,
+  constant-add,
+  constant-mul,
+}
 use Rattle.algebra.specs.Monomials.{x^, coef-power-low}
 use Rattle.algebra.specs.Degree.{Below, Monic, below-add, below-𝟎, below-zero, below-constant-mul, monic-pow-x}
 use Rattle.algebra.specs.Division.{below-top}

@@ -16,7 +16,7 @@ use Rattle.algebra.specs.Fields.{residue-nontrivial}
 use Rattle.algebra.specs.CoefficientLists.{ℤ[x]/, poly, Reduced}
 use Rattle.factorisation.specs.MonicDivisors.{divisor-degree}
 use Rattle.quotients.specs.Remainder.{Remainder}
-use Rattle.euclid.specs.TakenPrimes.{is-prime}
+use Rattle.algebra.specs.TakenPrimes.{is-prime}
 use Rattle.euclid.specs.CommonDivisors.{GcdOf, CofactorOf}
 use Rattle.lifting.specs.Correction.{Inverse}
 

@@ -83,12 +83,18 @@ module _ {p : ℕ} {f : spec.Poly} {pieces : List Piece} {count : ℕ} {parts : 
   piece-room {a} {b} {i} t = omega (arith, state.piece-room p f parts x rest opened a b i t, stack-length noPiece pieces (count - 1))
 
   module _ {a b : List ℕ} {i : ℕ} (none more : Element) (t : TwoFactors p (x .coefs) (x .degree) a i b) where
+    abbrev upper : Piece
+    upper = record { coefs = a; degree = i; element = none }
+
+    abbrev lower : Piece
+    lower = record { coefs = b; degree = x .degree - i; element = more }
+
     -- the array where the top piece is cut in two
     abbrev after : List Piece
-    after = set (set pieces (count - 1) (record { coefs = b; degree = x .degree - i; element = more })) count (record { coefs = a; degree = i; element = none })
+    after = set (set pieces (count - 1) lower) count upper
 
-    two : stack noPiece after (count + 1) ≡ record { coefs = a; degree = i; element = none } ∷ record { coefs = b; degree = x .degree - i; element = more } ∷ rest
-    two = stack-two noPiece pieces (record { coefs = a; degree = i; element = none }) (record { coefs = b; degree = x .degree - i; element = more }) count l (omega (arith, w .long, piece-room t))
+    two : stack noPiece after (count + 1) ≡ upper ∷ lower ∷ rest
+    two = stack-two noPiece pieces upper lower count l (omega (arith, w .long, piece-room t))
 
     pub splitting-cut : none .known ≡ false → Known p (x .degree - i) (poly p b) more → Splitting p f after (count + 1) parts
     splitting-cut z k = record {

@@ -1,6 +1,6 @@
 -- The first elements of an array as a stack, the last of them on top: `stack d a k`.
 -- Proves what the stack is where its top is taken, and where two elements take the place of the top. Assumes nothing.
-use mathlib.Core.Path.{_≡_, refl, sym, _∙_, ap, ap₂}
+use mathlib.Core.Path.{_≡_, refl, _∙_, ap, ap₂}
 use mathlib.Core.List.{List, [], _∷_}
 use Prim.Native.Nat.{ℕ, zero, suc, _+_, _-_, _≤_, _<_}
 use native.Mathlib.Numerals.{add-one}

@@ -18,7 +18,8 @@ use Rattle.theorems.specs.MonicLists.{MonicList, to-claims}
 use Rattle.splitting.specs.declared.Element.{Element}
 use Rattle.splitting.specs.Elements.{Known}
 use Rattle.factors.specs.Cut.{Monics, TwoFactors}
-use Rattle.verdicts.specs.Given.{listed, is-prime}
+use Rattle.algebra.specs.TakenPrimes.{is-prime}
+use Rattle.verdicts.specs.Given.{listed}
 use Rattle.verdicts.specs.SplitByItems.{PartHeld}
 use Rattle.verdicts.specs.Views.{asPart}
 use Rattle.verdicts.specs.declared.Part.{Part}
@@ -65,7 +66,7 @@ array-of : {p : ℕ} {a : List ℕ} {d : ℕ} → Monics p a d → MonicArray (p
 array-of m = record { fits = m .fits; reduced = m .reduced; monic = m .monic }
 
 given-list : {p : ℕ} {f : List ℕ} {d : ℕ} → Monics p f d → MonicList (p *ℕ p) d (listed d f)
-given-list {p} m = listed-monic (square-large p (is-prime p (m .prime) .large)) (array-of m)
+given-list {p} m = listed-monic (square-large p (is-prime (m .prime) .large)) (array-of m)
 
 -- nothing is claimed of an element that is not known
 pub not-known : {p d : ℕ} (Q : ℤ[x]/ p) {e : Element} → e .known ≡ false → Known p d Q e
@@ -75,8 +76,8 @@ pub state-start : (p : ℕ) (f : List ℕ) (d : ℕ) (e : Element) (parts : Part
     → State p (listed d f) parts (record { coefs = f; degree = d; element = e } ∷ [])
 unfolding weight
 state-start p f d none parts m z e = record {
-  prime = is-prime p (m .prime);
-  holding = holding-start p (is-prime p (m .prime)) (listed d f) parts e (to-claims (m .positive) (given-list m));
+  prime = is-prime (m .prime);
+  holding = holding-start p (is-prime (m .prime)) (listed d f) parts e (to-claims (m .positive) (given-list m));
   pieces = all-cons (record { monic = m; element = not-known (poly p f) z }) (λ a i. elim i [ ]);
   room = omega (arith, e, m .fits);
   arrays = subst (λ k. All (PartHeld p) (take k (parts .parts))) (sym e) (λ x i. elim i [ ]);

@@ -24,7 +24,9 @@ not-zero e = omega arith
 
 pub proper-prime : (a : PolyRecord) → proper a ≡ true → taken (a .prime) ≡ true
 unfolding proper
-proper-prime a e = passes (taken (a .prime)) (left (taken (a .prime)) counted (left (taken (a .prime) && counted) (all (λ (c : ℕ). ltb c (modulus a)) (a .coefficients)) (rw e tt)))
+proper-prime a e =
+    passes (taken (a .prime))
+    (left (taken (a .prime)) counted (left (taken (a .prime) && counted) (all (λ (c : ℕ). ltb c (modulus a)) (a .coefficients)) (rw e tt)))
   where
     counted : Bool
     counted = eqb (length (a .coefficients)) 33

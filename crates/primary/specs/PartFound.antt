@@ -22,7 +22,8 @@ use Rattle.theorems.specs.Recognised.{Found, FoundOver, splitFound}
 use Rattle.modular.specs.Coefficients.{Represents}
 use Rattle.bases.specs.declared.Base.{Base}
 use Rattle.bases.specs.Bases.{BaseFound}
-use Rattle.verdicts.specs.Given.{listed, Held, Given, is-prime}
+use Rattle.algebra.specs.TakenPrimes.{is-prime}
+use Rattle.verdicts.specs.Given.{listed, Held, Given}
 use Rattle.verdicts.specs.SplitByItems.{PartHeld, SplitByItems}
 use Rattle.verdicts.specs.Views.{asPart}
 use Rattle.verdicts.specs.declared.Part.{Part}
@@ -44,7 +45,7 @@ pub record PartFound (p : ℕ) (f : List ℕ) (d : ℕ) (r : Part) : Type 0 wher
 
 module _ {p : ℕ} {f q : List ℕ} {d : ℕ} (U : UnsplitPiece p f q d) where
   pub prime : Prime p
-  prime = is-prime p (U .prime)
+  prime = is-prime (U .prime)
 
   bar-monic : Monic d (poly p f)
   bar-monic = subst (Monic d) (bar-poly p (prime .large) f) (monic-map ((coefficients p (prime .large)) .hom) (U .monic .monic))

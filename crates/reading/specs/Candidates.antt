@@ -17,7 +17,7 @@ use Rattle.algebra.specs.CoefficientLists.{poly}
 use Rattle.algebra.specs.ListDivision.{poly-take}
 use Rattle.theorems.specs.MonicLists.{MonicList, to-claims}
 use Rattle.theorems.specs.Factorisations.{monic-equal}
-use Rattle.euclid.specs.TakenPrimes.{is-prime}
+use Rattle.algebra.specs.TakenPrimes.{is-prime}
 use Rattle.pieces.specs.ArrayPieces.{MonicArray, listed-monic}
 use Rattle.sheets.specs.Views.{polyIn}
 use Rattle.reading.specs.declared.Candidate.{Candidate}

@@ -1,2 +1,3 @@
 pub mod Outcomes
 pub mod Reader
+pub mod Laws

@@ -1,15 +1,12 @@
 -- What a call gives back and leaves in the area: `Called o r old new`, the code's outcome r and the area new are what the outcome o of the specification says.
 -- Proves this of a call that is turned back and of one that wrote its bytes, and what `splitCall` is in each case. Assumes nothing.
-use mathlib.Core.Path.{_≡_, refl, sym, _∙_, ap, subst}
-use mathlib.Core.Bool.{true, false}
+use mathlib.Core.Path.{_≡_, sym, _∙_, ap}
 use mathlib.Core.List.{List}
-use Prim.Native.Nat.{ℕ, suc, _≤_, _<_, _*_ as _*ℕ_}
+use Prim.Native.Nat.{ℕ, suc, _≤_, _<_}
 use native.Mathlib.Omega.{arith}
-use lib.ListN.{length}
 use lib.Seq.{length-take-le}
-use lib.Dec.{T, ltb}
 use borrow.Author.Tests.{lt-ltb, le-ltb}
-use Rattle.specification.specs.Limits.{taken, answerArea}
+use Rattle.specification.specs.Limits.{answerArea}
 use Rattle.specification.specs.Polynomials.{degree}
 use Rattle.specification.specs.Sheets.{Sheet, sheetOf, accepted, fault, readSheet}
 use Rattle.specification.specs.Answers.{answer}
@@ -18,7 +15,8 @@ use Rattle.specification.specs.Promises.{GoodSheet}
 use Rattle.algebra.specs.Numbers.{square-large}
 use Rattle.theorems.specs.MonicLists.{to-claims}
 use Rattle.factors.specs.Cut.{Monics}
-use Rattle.verdicts.specs.Given.{listed, is-prime}
+use Rattle.algebra.specs.TakenPrimes.{is-prime}
+use Rattle.verdicts.specs.Given.{listed}
 use Rattle.pieces.specs.ArrayPieces.{listed-monic}
 use Rattle.writing.specs.Area.{Wrote, wrote-from-start}
 use Rattle.splitter.specs.declared.Outcome.{Outcome}
@@ -80,6 +78,7 @@ module _ {p : ℕ} {f : List ℕ} {d : ℕ} (m : Monics p f d) where
   pub good-sheet : GoodSheet (sheetOf p (listed d f))
   good-sheet = record {
     prime = rw (m .prime) tt;
-    monic = to-claims (m .positive) (listed-monic (square-large p (is-prime p (m .prime) .large)) (record { fits = m .fits; reduced = m .reduced; monic = m .monic }));
+    monic = to-claims (m .positive)
+        (listed-monic (square-large p (is-prime (m .prime) .large)) (record { fits = m .fits; reduced = m .reduced; monic = m .monic }));
     fits = omega (arith, listed-degree, m .fits);
   }

@@ -1,6 +1,6 @@
 -- The answer reader: bytes compared one by one, and what `readCall` is where the candidate's answer is the bytes and where it is not.
 -- Proves these from the theorems on the reader. Assumes nothing.
-use mathlib.Core.Path.{_≡_, sym, _∙_, ap, subst}
+use mathlib.Core.Path.{_≡_, sym, _∙_, ap}
 use mathlib.Core.Bool.{true, false, true≢false, false≢true}
 use mathlib.Core.List.{List, _++_}
 use mathlib.Core.Logic.{_≢_}
@@ -15,7 +15,7 @@ use Rattle.specification.specs.Limits.{primes, answerArea}
 use Rattle.specification.specs.Sheets.{Sheet, sheetOf, sheetBytes}
 use Rattle.specification.specs.Answers.{answer}
 use Rattle.specification.specs.Calls as calls
-use Rattle.specification.specs.Promises.{GoodSheet, AnswerTo}
+use Rattle.specification.specs.Promises.{GoodSheet}
 use Rattle.theorems.specs.GoodSheets.{taken-passes}
 use Rattle.theorems.specs.SheetsRead.{read-is-good}
 use Rattle.theorems.specs.SheetsBothWays.{written-is-read}
@@ -26,7 +26,6 @@ use Rattle.pieces.specs.Order.{Answers}
 use Rattle.writing.specs.Area.{Wrote, wrote-from-start}
 use Rattle.reading.specs.declared.Candidate.{Candidate}
 use Rattle.reading.specs.Found.{CandidateOf}
-use Rattle.splitter.specs.Outcomes.{good-sheet}
 
 -- ---- bytes compared
 

@@ -1,10 +1,10 @@
 -- The answer reader: "The reader accepts a byte string exactly when it is the answer to some sheet, and gives back that sheet."
 -- Proves it from one hypothesis, that the list read off every answer multiplies to the sheet's polynomial, and from the same that different
 -- sheets have different answers and that the two calls undo each other. Assumes nothing else.
-use mathlib.Core.Path.{_≡_, refl, sym, _∙_, ap, ap₂, subst}
+use mathlib.Core.Path.{_≡_, refl, sym, _∙_, ap, subst}
 use mathlib.Core.Logic.{_↔_}
 use mathlib.Core.Bool.{true, false, not}
-use mathlib.Core.List.{List, []}
+use mathlib.Core.List.{List}
 use Prim.Native.Nat.{ℕ, _≤_, _*_}
 use native.Mathlib.Omega.{arith}
 use lib.ListN.{getD}
@@ -12,7 +12,7 @@ use lib.Dec.{T, ltb, ltb→lt, nltb→le}
 use Rattle.specification.specs.Lists.{same}
 use Rattle.specification.specs.Limits.{answerArea}
 use Rattle.specification.specs.Polynomials.{product}
-use Rattle.specification.specs.Sheets.{Sheet, sheetOf, Reading, accepted, fault, readSheet, sheetBytes}
+use Rattle.specification.specs.Sheets.{Sheet, Reading, accepted, fault, readSheet, sheetBytes}
 use Rattle.specification.specs.Answers.{answer}
 use Rattle.specification.specs.FactorList.{factorList}
 use Rattle.specification.specs.Calls.{Outcome, success, refused, answerTo, splitCall, sheetIn, isAnswerTo, readCall}
@@ -65,6 +65,10 @@ enough area l = fails (ltb area answerArea) (λ t. omega (arith, ltb→lt area a
 pub split-written : (area : ℕ) → answerArea ≤ area → (s : Sheet) → GoodSheet s → splitCall area (sheetBytes s) ≡ success (answer s)
 unfolding splitCall
 split-written area l s g = rw (enough area l, written-is-read s g) (unfold answerTo in refl)
+
+pub split-succeeds : (area : ℕ) (t : List ℕ) → (splitCall area t) .number ≡ 0 → splitCall area t ≡ success ((splitCall area t) .bytes)
+split-succeeds area t e =
+    let (l, (s, g, is-answer, is-sheet)) = split-call area t e in ap (splitCall area) is-sheet ∙ split-written area l s g ∙ ap success (sym is-answer)
 
 pub read-then-split : (area : ℕ) (b t : List ℕ) → readCall area b ≡ success t → splitCall area t ≡ success b
 read-then-split area b t e =
@@ -119,9 +123,6 @@ module _ (multiplies : (s : Sheet) → GoodSheet s → product (s .prime * s .pr
                 (λ t. let (s, g, is-answer, is-sheet) = answered b (readSheet (sheetIn b)) refl t in h s g is-answer),
           )
 
-  pub answers-differ : (s s′ : Sheet) → GoodSheet s → GoodSheet s′ → answer s ≡ answer s′ → s ≡ s′
-  answers-differ s s′ g g′ e =
-      ap₂ sheetOf prime (sym (multiplies s g) ∙ ap₂ (λ (p : ℕ) (b : List ℕ). product (p * p) (factorList b)) prime e ∙ multiplies s′ g′)
-    where
-      prime : s .prime ≡ s′ .prime
-      prime = sym (prime-byte s) ∙ ap (λ (b : List ℕ). getD b 1 0) e ∙ prime-byte s′
+  -- number 0 is success
+  pub read-succeeds : (area : ℕ) (b : List ℕ) → (readCall area b) .number ≡ 0 → readCall area b ≡ success ((readCall area b) .bytes)
+  read-succeeds area b e = let (l, a) = read-call area b e in reader-accepts-exactly area l b ((readCall area b) .bytes) .1 a

@@ -106,11 +106,6 @@ module _ (p : ℕ) (prime : Prime p) where
       divides = rw multiplied at (member-divides (PolyRing (Residues n)) (Memᴰ·map (poly n) (Memᴰ·map (λ F. F .part) i)));
     })
 
-    pub parts-found : map (λ F. F .part) Fs ≡ map (primary p f) (powers p f)
-    parts-found =
-        map-equal (λ F. F .part) (λ F. primary p f (F .power)) Fs part-found
-        ∙ sym (map-map (primary p f) (λ F. F .power) Fs) ∙ ap (map (primary p f)) powers-found
-
     -- items 1 to 9
     pub recognised : map (splitFound p) Fs ≡ partsOf p f
     unfolding partsOf

@@ -31,12 +31,10 @@ use Rattle.specification.specs.Sheets.{
   atEnd,
   readFrom,
   readSheet,
-  sheetBytes,
 }
-use Rattle.specification.specs.Promises.{GoodSheet, sheetLimit}
+use Rattle.specification.specs.Promises.{sheetLimit}
 use Rattle.algebra.specs.Tests.{picked, left, right}
 use Rattle.theorems.specs.GoodSheets.{degree-monomial}
-use Rattle.theorems.specs.SheetsBothWays.{written-is-read}
 
 -- the most bytes that may still be taken in a state
 abbrev room : Due → ℕ
@@ -147,6 +145,3 @@ module _ (bytes : List ℕ) where
   pub first-bytes-decide : readSheet (take (suc sheetLimit) bytes) ≡ readSheet bytes
   unfolding readSheet
   first-bytes-decide = decides primeCommand 0 bytes (suc sheetLimit) (omega arith)
-
-pub sheet-length : (s : Sheet) → GoodSheet s → length (sheetBytes s) ≤ sheetLimit
-sheet-length s g = accepted-length (sheetBytes s) s (written-is-read s g)

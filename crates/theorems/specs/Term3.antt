@@ -186,3 +186,10 @@ read-then-split = reader.read-then-split
 
 pub split-then-read : (area : ℕ) (b t : List ℕ) → splitCall area t ≡ success b → readCall area b ≡ success t
 split-then-read = reader.split-then-read multiplies
+
+-- number 0 is success
+pub split-succeeds : (area : ℕ) (t : List ℕ) → (splitCall area t) .number ≡ 0 → splitCall area t ≡ success ((splitCall area t) .bytes)
+split-succeeds = reader.split-succeeds
+
+pub read-succeeds : (area : ℕ) (b : List ℕ) → (readCall area b) .number ≡ 0 → readCall area b ≡ success ((readCall area b) .bytes)
+read-succeeds = reader.read-succeeds multiplies

@@ -1,22 +1,18 @@
 -- What a part is given as: G and the part in arrays, with their degrees. `Given` is what the functions on a part ask for.
 -- Proves that the arrays hold the polynomials of their lists, and that that of G is monic modulo p and modulo p². Assumes nothing.
-use mathlib.Core.Path.{_≡_, sym, subst}
+use mathlib.Core.Path.{_≡_, subst}
 use mathlib.Core.Bool.{true}
 use mathlib.Core.List.{List}
 use Prim.Native.Nat.{ℕ, suc, _≤_, _<_, _-_, _*_ as _*ℕ_}
-use native.Mathlib.Nat.{mul-le-mul}
 use native.Mathlib.Omega.{arith}
-use lib.Dec.{T, leb, leb→le}
 use lib.ListN.{take}
 use lib.Seq.{length-take-le}
-use Rattle.specification.specs.Limits.{primes, taken}
-use Rattle.specification.specs.Lists.{all}
+use Rattle.specification.specs.Limits.{taken}
 use Rattle.specification.specs.Polynomials as spec
-use Rattle.algebra.specs.Fields.{Prime, taken-prime}
+use Rattle.algebra.specs.TakenPrimes.{is-prime}
 use Rattle.algebra.specs.Degree.{Below, Monic}
 use Rattle.algebra.specs.CoefficientLists.{poly, Reduced}
 use Rattle.algebra.specs.ListDivision.{poly-take}
-use Rattle.theorems.specs.GoodSheets.{taken-passes}
 use Rattle.theorems.specs.MonicLists.{MonicList, monic-poly}
 use Rattle.theorems.specs.Reductions.{digits-monic}
 use Rattle.theorems.specs.PartForm.{PartOver, base-monic}
@@ -40,21 +36,9 @@ pub record Given (p : ℕ) (base : List ℕ) (d m : ℕ) (part : List ℕ) : Typ
   pub part-held : Held (p *ℕ p) (m *ℕ d) part
   pub over : PartOver p (listed d base) m (listed (m *ℕ d) part)
 
-module _ (p : ℕ) (t : taken p ≡ true) where
-  pub is-prime : Prime p
-  is-prime = taken-prime p (subst T (sym t) tt)
-
-  -- p² is a number of 16 bits
-  pub one-byte : p ≤ 255
-  unfolding primes all
-  one-byte = leb→le p 255 (taken-passes (λ (q : ℕ). leb q 255) tt p (subst T (sym t) tt))
-
-  pub square-small : p *ℕ p ≤ 65025
-  square-small = mul-le-mul {n₂ = 255} {m₂ = 255} one-byte one-byte
-
 module _ {p : ℕ} {base : List ℕ} {d m : ℕ} {part : List ℕ} (given : Given p base d m part) where
   pub large : 1 < p
-  large = is-prime p (given .prime) .large
+  large = is-prime (given .prime) .large
 
   pub degree-room : d ≤ 32
   degree-room = base-room m d (given .over .positive) (given .room)

@@ -2,9 +2,8 @@
 // `split_part` is public for the crates above, and no entry point of the library.
 ghost use mathlib.Core.Path.{_≡_};
 ghost use mathlib.Core.Bool.{true, not, _&&_};
-ghost use mathlib.Core.List.{map};
 ghost use mathlib.Core.Logic.{_≢_};
-ghost use Prim.Native.Nat.{_<_, _≤_, _-_, _/_, _%_, _*_ as _*ℕ_};
+ghost use Prim.Native.Nat.{_<_, _≤_, _-_, _%_, _*_ as _*ℕ_};
 ghost use lib.Dec.{eqb};
 ghost use Rattle.specification.specs.Limits.{taken};
 ghost use Rattle.specification.specs.Polynomials as lists;

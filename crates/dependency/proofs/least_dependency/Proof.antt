@@ -7,6 +7,7 @@ use borrow.Author.Needs.{needs}
 use Rattle.algebra.specs.Degree.{below-up}
 use Rattle.modular.specs.Coefficients.{below-size}
 use Rattle.dependency.specs.Rows.{stage-rows}
+use Rattle.dependency.specs.Storing.{row-stored}
 use Rattle.dependency.specs.Dependency.{Searching, searching-none, searching-found, searching-more, searching-done, monic-preimage}
 use Rattle.dependency.proofs.least_dependency.Statement.{statement}
 use Rattle.dependency.proofs.least_dependency.Tie as tie
@@ -44,7 +45,7 @@ least-dependency-spec =
     searching-found (m .before .before .before .before .before .before .pre .0) (m .before .before .before .loop-test .taken)
     (m .before .before .before .before .loop .inv) (m .monomial .ensures) (c .before .before .before .before .reduce-by-rows .ensures)
     (c .before .size .ensures) (c .if1 .taken))  -- returns
-    (λ c. search needs)  -- sub-store
+    (λ c. search needs)  -- sub-monic-row
     (λ c κs.
     let m = c .before .before .before .before .before in
     let prime = m .before .before .before .before .before .before .pre .0 in
@@ -59,12 +60,22 @@ least-dependency-spec =
       pos-of-ne-zero (s .top (pos-of-ne-zero (c .if1 .left))),
       below-up (omega arith) (below-size _ s),
       below-up (omega arith) (monic .below),
-    ))  -- store-requires
+    ))  -- monic-row-requires
+    (λ c. search needs)  -- sub-rows
+    (λ c. search (needs, c .before .before .size .ensures .limit))  -- mul-rows
+    (λ c. search (needs, c .before .before .size .ensures .limit))  -- array-set-from-rows
     (λ c. search needs)  -- add-i
     (λ c. search needs)  -- loop-less
     (λ c.
     let m = c .before .before .before .before .before .before in
     searching-more (m .before .before .before .before .before .before .pre .0) (m .before .before .before .loop-test .taken)
     (m .before .before .before .before .loop .inv) (m .monomial .ensures) (c .before .before .before .before .before .reduce-by-rows .ensures)
-    (c .before .before .size .ensures) (pos-of-ne-zero (c .before .if1 .left)) (c .store .ensures))  -- loop-again
+    (c .before .before .size .ensures) (pos-of-ne-zero (c .before .if1 .left))
+    (row-stored (omega (
+      arith,
+      m .before .before .before .before .loop .inv .slots,
+      c .before .before .size .ensures .limit,
+      pos-of-ne-zero
+          (c .before .if1 .left),
+    )) (c .monic-row .ensures)))  -- loop-again
     (λ c. searching-done (c .loop-test .left) (c .before .loop .inv)))  -- returns-2

@@ -35,17 +35,24 @@ reduce-by-rows-spec =
     (λ c. search needs)  -- array-read-c
     (λ c. omega (arith, c .before .before .before .before .before .loop .inv .image .low (c .before .before .before .before .before .loop .k - 1)))  -- sub-c-2
     (λ c κs.
-    let inv = c .before .before .before .before .before .loop .inv in
-    (inv .image, below-up (omega arith) (row-below (c .before .before .before .before .before .before .before .before .before .pre .3) (c .before .before .before .before .before .loop .k - 1)), search (needs, inv .size .limit)))  -- add-multiple-requires
+    let inv = c .before .before .before .before .before .loop .inv in (
+      inv .image,
+      below-up (omega arith)
+          (row-below (c .before .before .before .before .before .before .before .before .before .pre .3)
+          (c .before .before .before .before .before .loop .k - 1)),
+      search (needs, inv .size .limit),
+    ))  -- add-multiple-requires
     (λ c κs. (c .before .before .before .before .before .before .loop .inv .preimage, c .before .before .before .before .before .before .before .before .before .before .pre .3 .preimages (c .before .before .before .before .before .before .loop .k - 1), search needs))  -- add-multiple-requires-2
     (λ c κs. search needs)  -- size-requires-2
     (λ c.
     let pre = c .before .before .before .before .before .before .before .before .before .before .before .before .pre in
-    fewer (pre .0) (pre .3) (c .before .before .before .before .before .before .before .before .loop .inv) (c .before .before .before .before .before .before .before .loop-test .taken) (c .before .before .before .before .if1 .left)
+    fewer (pre .0) (pre .3) (c .before .before .before .before .before .before .before .before .loop .inv)
+    (c .before .before .before .before .before .before .before .loop-test .taken) (c .before .before .before .before .if1 .left)
     (c .before .before .add-multiple .ensures) (c .before .add-multiple2 .ensures) (c .size2 .ensures))  -- loop-less
     (λ c.
     let pre = c .before .before .before .before .before .before .before .before .before .before .before .before .pre in
-    reduced-more (pre .0) (pre .3) (c .before .before .before .before .before .before .before .before .loop .inv) (c .before .before .before .before .before .before .before .loop-test .taken) (c .before .before .before .before .if1 .left)
+    reduced-more (pre .0) (pre .3) (c .before .before .before .before .before .before .before .before .loop .inv)
+    (c .before .before .before .before .before .before .before .loop-test .taken) (c .before .before .before .before .if1 .left)
     (c .before .before .add-multiple .ensures) (c .before .add-multiple2 .ensures) (c .size2 .ensures))  -- loop-again
     (λ c. record { terms = _; reduced = c .before .loop .inv; free = λ l. absurd (omega (arith, c .loop-test .left)) })  -- returns
     (λ c.

@@ -19,4 +19,5 @@ monic-multiple-spec =
     (λ c κs. (prime-pos (c .before .pre .0), c .before .pre .2 .limit, below-size _ (c .before .pre .2)))  -- multiple-requires
     (λ c.
     let h = c .before .before .pre in
-    monic-by-inverse (prime-pos (h .0)) (h .2) (h .3) (rw (mul-comm (c .before .inverse .result)) (c .before .inverse .ensures .1)) (c .multiple .ensures)))  -- returns
+    monic-by-inverse (prime-pos (h .0)) (h .2) (h .3) (rw (mul-comm (c .before .inverse .result)) (c .before .inverse .ensures .1))
+    (c .multiple .ensures)))  -- returns

@@ -1,7 +1,7 @@
 -- `factors::bar` meets its contract.
 -- Assumes nothing.
 use Rattle.modular.specs.Coefficients.{zeros}
-use Rattle.euclid.specs.TakenPrimes.{is-positive}
+use Rattle.algebra.specs.TakenPrimes.{is-positive}
 use Rattle.factors.specs.Cut.{bar-is}
 use Rattle.factors.proofs.bar.Statement.{statement}
 use Rattle.factors.proofs.bar.Tie as tie

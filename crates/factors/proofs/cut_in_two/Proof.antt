@@ -5,7 +5,7 @@ use mathlib.Core.Bool.{true≢false}
 use native.Mathlib.Omega.{arith}
 use borrow.Author.Needs.{needs}
 use Rattle.frobenius.specs.Unsplit.{Unsplit}
-use Rattle.euclid.specs.TakenPrimes.{is-prime}
+use Rattle.algebra.specs.TakenPrimes.{is-prime}
 use Rattle.factors.specs.Cut.{bar-is-monic, bar-known, split-given, factors-given, pair-given, second-known, two-factors}
 use Rattle.factors.proofs.cut_in_two.Statement.{statement}
 use Rattle.factors.proofs.cut_in_two.Tie as tie
@@ -40,7 +40,8 @@ cut-in-two-spec =
     let b = c .before .before .before .before .before .before .before .before .before .before .before .before in
     let M = b .before .pre .0 in
     let lifted = c .before .before .lift .ensures in
-    let element = c .before .before .before .before .before .before .before .before .before .before .before .element-of .ensures .splits (c .before .before .before .before .before .before .before .before .before .before .if1 .taken) in
+    let element = c .before .before .before .before .before .before .before .before .before .before .before .element-of .ensures .splits
+    (c .before .before .before .before .before .before .before .before .before .before .if1 .taken) in
     record {
       two = λ e. two-factors M (b .bar .ensures) h lifted;
       rest-known = λ e. second-known M (b .bar .ensures) h _ element (c .before .before .before .before .element-for .ensures) lifted;

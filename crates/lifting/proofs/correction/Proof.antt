@@ -18,8 +18,14 @@ correction-spec =
     (omega (arith, G .reduced .low 0), omega (arith, G .fits), G .inverse .small, G .monic-second))  -- product-modulo-requires
     (λ c. search needs)  -- add-product
     (λ c κs.
-    let G = c .before .before .pre in
-    (omega (arith, G .reduced .low 0), omega (arith, G .fits), omega (arith, G .fits), c .product-modulo .ensures .small, rw add-one (G .monic-first .below)))  -- product-requires
+    let G = c .before .before .pre in (
+      omega (arith, G .reduced .low 0),
+      omega (arith, G .fits),
+      omega (arith, G .fits),
+      c .product-modulo .ensures .small,
+      rw add-one
+          (G .monic-first .below),
+    ))  -- product-requires
     (λ c κs. search needs)  -- difference-requires
     (λ c. search needs)  -- add-divide
     (λ c κs.

@@ -3,7 +3,7 @@
 use native.Mathlib.Numerals.{add-one}
 use native.Mathlib.Omega.{arith}
 use borrow.Author.Needs.{needs}
-use Rattle.euclid.specs.TakenPrimes.{is-prime}
+use Rattle.algebra.specs.TakenPrimes.{is-prime}
 use Rattle.lifting.specs.CoprimePair.{inverse-is}
 use Rattle.lifting.proofs.inverse_modulo.Statement.{statement}
 use Rattle.lifting.proofs.inverse_modulo.Tie as tie

@@ -1,7 +1,7 @@
 -- `lifting::lift` meets its contract.
 -- Assumes nothing.
 use borrow.Author.Needs.{needs}
-use Rattle.euclid.specs.TakenPrimes.{fits-byte}
+use Rattle.algebra.specs.TakenPrimes.{fits-byte}
 use Rattle.lifting.proofs.lift.Statement.{statement}
 use Rattle.lifting.proofs.lift.Tie as tie
 

@@ -28,4 +28,5 @@ lift-by-spec =
     (λ c.
     let d = c .before .before .before .before in
     let F = d .before .before .pre .1 in
-    lifted-is (F .prime .large) F (d .before .defect .ensures) (d .correction .ensures) (c .before .add-multiple .ensures) (c .add-multiple2 .ensures)))  -- returns
+    lifted-is (F .prime .large) F (d .before .defect .ensures) (d .correction .ensures) (c .before .add-multiple .ensures)
+    (c .add-multiple2 .ensures)))  -- returns

@@ -33,4 +33,5 @@ add-multiple-spec =
     (λ c. search needs)  -- add-i
     (λ c. search needs)  -- loop-less
     (λ c. replaced-more (c .before .before .loop .inv) (search needs) (c .add-product-by .ensures))  -- loop-again
-    (λ c. multiple-added _ _ _ _ _ (c .before .before .before .pre .0) (c .before .before .before .pre .1) (c .before .loop .inv) (c .loop-test .left)))  -- returns
+    (λ c. multiple-added _ _ _ _ _ (c .before .before .before .pre .0) (c .before .before .before .pre .1) (c .before .loop .inv)
+    (c .loop-test .left)))  -- returns

@@ -16,9 +16,14 @@ parts-of-spec =
     (tie.spec
     (λ c κs. search needs)  -- parts-number-requires
     (λ c κs. search needs)  -- size-requires
-    (λ c. omega (arith, positive _ (number-zero _ (sym (c .before .before .before .parts-number .ensures) ∙ c .before .before .if1 .taken)) (c .size .ensures)))  -- sub-split
+    (λ c. omega (
+      arith,
+      positive _ (number-zero _ (sym (c .before .before .before .parts-number .ensures) ∙ c .before .before .if1 .taken))
+          (c .size .ensures),
+    ))  -- sub-split
     (λ c. search needs)  -- cast-split
-    (λ c κs. monics _ (number-zero _ (sym (c .before .before .before .before .parts-number .ensures) ∙ c .before .before .before .if1 .taken)) (c .before .size .ensures))  -- split-requires
+    (λ c κs. monics _ (number-zero _ (sym (c .before .before .before .before .parts-number .ensures) ∙ c .before .before .before .if1 .taken))
+    (c .before .size .ensures))  -- split-requires
     (λ c κs. search needs)  -- no-parts-requires
     (λ c.
     let zero = sym (c .before .before .before .before .before .parts-number .ensures) ∙ c .before .before .before .before .if1 .taken in

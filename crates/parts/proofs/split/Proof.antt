@@ -6,7 +6,22 @@ use lib.ListN.{getD}
 use borrow.Author.Needs.{needs}
 use Rattle.parts.specs.Stack.{stack}
 use Rattle.parts.specs.State.{pieceList, state-start}
-use Rattle.parts.specs.Pieces.{noPiece, Splitting, left, top, top-element, whole-piece, part-room, arrays-fit, piece-room, splitting-cut, cut-less, splitting-found, found-less, splitting-done}
+use Rattle.parts.specs.Pieces.{
+  noPiece,
+  Splitting,
+  left,
+  top,
+  top-element,
+  whole-piece,
+  part-room,
+  arrays-fit,
+  piece-room,
+  splitting-cut,
+  cut-less,
+  splitting-found,
+  found-less,
+  splitting-done,
+}
 use Rattle.parts.proofs.split.Statement.{statement}
 use Rattle.parts.proofs.split.Tie as tie
 
@@ -67,7 +82,8 @@ split-spec =
     let w = e .before .before .before .before .before .before .loop .inv in
     let l = e .before .before .before .before .before .loop-test .taken in
     let t = e .before .cut-in-two .ensures .two (e .if1 .taken) in
-    splitting-cut w l _ _ t (e .before .before .before .before .before .before .before .before .unknown .ensures) (e .before .cut-in-two .ensures .rest-known (e .if1 .taken)))  -- loop-again
+    splitting-cut w l _ _ t (e .before .before .before .before .before .before .before .before .unknown .ensures)
+    (e .before .cut-in-two .ensures .rest-known (e .if1 .taken)))  -- loop-again
     (λ c κs. top (c .before .before .before .before .before .before .loop .inv) (c .before .before .before .before .before .loop-test .taken))  -- bar-requires
     (λ c κs.
     let e = c .before in

@@ -17,7 +17,11 @@ shift-spec =
     (λ c. shift-low (c .before .before .pre .1) (c .before .before .pre .2) (c .before .times-x .ensures) (c .if1 .taken))  -- returns
     (λ c. search needs)  -- mul-c
     (λ c. search needs)  -- array-read-c
-    (λ c. omega (arith, moved-reduced (c .before .before .pre .1) (c .before .before .pre .2) (c .before .times-x .ensures) .low (c .before .before .args .d)))  -- sub-c
+    (λ c. omega (
+      arith,
+      moved-reduced (c .before .before .pre .1) (c .before .before .pre .2) (c .before .times-x .ensures) .low
+          (c .before .before .args .d),
+    ))  -- sub-c
     (λ c. search needs)  -- add-add-multiple
     (λ c κs.
     let pre = c .before .before .pre in

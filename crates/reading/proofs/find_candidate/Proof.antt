@@ -6,7 +6,7 @@ use borrow.Author.Needs.{needs}
 use borrow.Author.Tests.{not-true, not-false}
 use mathlib.Core.Bool.{false≢true}
 use Rattle.algebra.specs.Numbers.{square-large}
-use Rattle.euclid.specs.TakenPrimes.{is-prime}
+use Rattle.algebra.specs.TakenPrimes.{is-prime}
 use Rattle.reading.specs.Candidates.{none-found, answer-long, answer-taken, answer-degree, candidate-found}
 use Rattle.reading.proofs.find_candidate.Statement.{statement}
 use Rattle.reading.proofs.find_candidate.Tie as tie

@@ -19,4 +19,5 @@ answer-to-spec =
     (λ c. search needs)  -- same-length
     (λ c.
     let m = c .before .before .before .before .before .before .pre .0 in
-    wrote-as (answer-of-sheet _ _ _ (c .before .before .before .before .split .result) (c .before .before .before .before .split .ensures .is) (listed-degree m)) (c .before .before .write-answer .ensures)))  -- returns
+    wrote-as (answer-of-sheet _ _ _ (c .before .before .before .before .split .result) (c .before .before .before .before .split .ensures .is)
+    (listed-degree m)) (c .before .before .write-answer .ensures)))  -- returns

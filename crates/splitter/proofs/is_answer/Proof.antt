@@ -16,4 +16,5 @@ is-answer-spec =
     (λ c κs. search needs)  -- answer-to-requires
     (λ c. search needs)  -- slice-aggregate-same-bytes
     (λ c κs. search needs)  -- same-bytes-requires
-    (λ c. subst (λ l. Answers (c .same-bytes .result) (now (c .before .before .before .before .before .before .args .bytes) ≡ l)) (wrote-first (c .before .before .before .answer-to .ensures)) (c .same-bytes .ensures)))  -- returns
+    (λ c. subst (λ l. Answers (c .same-bytes .result) (now (c .before .before .before .before .before .before .args .bytes) ≡ l))
+    (wrote-first (c .before .before .before .answer-to .ensures)) (c .same-bytes .ensures)))  -- returns

@@ -24,10 +24,12 @@ read-spec =
     (λ c.
     let e = c .before .before .before .before .before in
     let found = e .before .before .before .if2 .taken in
-    called-wrote (read-found _ _ (e .before .before .before .before .before .if1 .left) (e .before .before .before .before .find-candidate .ensures) found (e .before .is-answer .ensures .yes (e .if3 .taken)))
+    called-wrote (read-found _ _ (e .before .before .before .before .before .if1 .left) (e .before .before .before .before .find-candidate .ensures) found
+    (e .before .is-answer .ensures .yes (e .if3 .taken)))
     (c .success .ensures) (c .before .before .before .write-sheet .ensures))  -- returns-2
     (λ c κs. search needs)  -- refused-requires-2
     (λ c.
     let candidate = c .before .before .find-candidate .ensures in
     let enough = c .before .before .before .if1 .left in
-    called-refused (⊎-elim (λ (t, f, a, e). read-other _ _ enough candidate (a .ensures .no (e .left))) (λ t. read-none _ _ enough candidate (t .left)) (c .before .if2 .came)) (c .refused2 .ensures)))  -- returns-3
+    called-refused (⊎-elim (λ (t, f, a, e). read-other _ _ enough candidate (a .ensures .no (e .left))) (λ t. read-none _ _ enough candidate (t .left))
+    (c .before .if2 .came)) (c .refused2 .ensures)))  -- returns-3

@@ -24,7 +24,8 @@ same-bytes-spec =
     (λ c. (search needs, c .if1 .left, below-none _))  -- loop-holds
     (λ c. search needs)  -- shared-slice-read-if2
     (λ c. omega (arith, c .before .before .before .before .before .pre, c .before .before .loop-test .taken))  -- shared-slice-read-if2-2
-    (λ c. bytes-differ _ _ _ (c .before .before .before .before .before .before .pre) _ (c .before .before .before .loop-test .taken) (c .if2 .taken))  -- returns-2
+    (λ c. bytes-differ _ _ _ (c .before .before .before .before .before .before .pre) _ (c .before .before .before .loop-test .taken)
+    (c .if2 .taken))  -- returns-2
     (λ c. search needs)  -- add-i
     (λ c. search needs)  -- loop-less
     (λ c.

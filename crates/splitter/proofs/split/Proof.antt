@@ -23,5 +23,7 @@ split-spec =
     (λ c κs. search needs)  -- success-requires
     (λ c. search needs)  -- same-length
     (λ c.
-    let r = read-accepted _ _ (c .before .before .before .before .before .before .before .before .read-sheet .ensures) (c .before .before .before .before .before .before .if2 .left) in
-    called-wrote (split-answered _ _ (c .before .before .before .before .before .before .before .before .before .if1 .left) (r .reading)) (c .success .ensures) (c .before .before .before .answer-to .ensures)))  -- returns-3
+    let r = read-accepted _ _ (c .before .before .before .before .before .before .before .before .read-sheet .ensures)
+    (c .before .before .before .before .before .before .if2 .left) in
+    called-wrote (split-answered _ _ (c .before .before .before .before .before .before .before .before .before .if1 .left) (r .reading))
+    (c .success .ensures) (c .before .before .before .answer-to .ensures)))  -- returns-3

@@ -3,7 +3,7 @@
 use native.Mathlib.Omega.{arith}
 use borrow.Author.Needs.{needs}
 use Rattle.modular.specs.Coefficients.{zeros}
-use Rattle.verdicts.specs.Given.{is-prime, one-byte}
+use Rattle.algebra.specs.TakenPrimes.{is-prime, fits-byte}
 use Rattle.verdicts.specs.Scaled.{divided-by}
 use Rattle.verdicts.proofs.divided_by_exponent.Statement.{statement}
 use Rattle.verdicts.proofs.divided_by_exponent.Tie as tie
@@ -12,13 +12,13 @@ pub divided-by-exponent-spec : {M : Type 1} → statement M
 divided-by-exponent-spec =
     tie.close
     (tie.spec
-    (λ c κs. omega (arith, is-prime _ (c .pre .0) .large))  -- reduce-requires
-    (λ c. omega (arith, one-byte _ (c .before .pre .0)))  -- cast-inverse
+    (λ c κs. omega (arith, is-prime (c .pre .0) .large))  -- reduce-requires
+    (λ c. omega (arith, fits-byte (c .before .pre .0)))  -- cast-inverse
     (λ c κs. search needs)  -- inverse-requires
     (λ c κs.
     let pre = c .before .before .pre in
-    (zeros _ (omega (arith, is-prime _ (pre .0) .large)) .reduced, pre .3, omega (arith, pre .2)))  -- add-multiple-requires
+    (zeros _ (omega (arith, is-prime (pre .0) .large)) .reduced, pre .3, omega (arith, pre .2)))  -- add-multiple-requires
     (λ c.
     let pre = c .before .before .before .pre in
-    divided-by _ _ (is-prime _ (pre .0) .large) (pre .1) _ (rw (c .before .before .reduce .ensures .0) at (c .before .inverse .ensures .rule (pre .0))) _
+    divided-by _ _ (is-prime (pre .0) .large) (pre .1) _ (rw (c .before .before .reduce .ensures .0) at (c .before .inverse .ensures .rule (pre .0))) _
     (c .add-multiple .ensures)))  -- returns

@@ -3,7 +3,8 @@
 use native.Mathlib.Omega.{arith}
 use borrow.Author.Needs.{needs}
 use Rattle.algebra.specs.Numbers.{square-large}
-use Rattle.verdicts.specs.Given.{large, square-small, g-is-monic}
+use Rattle.algebra.specs.TakenPrimes.{square-small}
+use Rattle.verdicts.specs.Given.{large, g-is-monic}
 use Rattle.verdicts.specs.HBar.{h-bar}
 use Rattle.verdicts.proofs.h_bar.Statement.{statement}
 use Rattle.verdicts.proofs.h_bar.Tie as tie

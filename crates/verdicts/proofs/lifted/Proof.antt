@@ -2,7 +2,7 @@
 -- Assumes nothing.
 use native.Mathlib.Omega.{arith}
 use borrow.Author.Needs.{needs}
-use Rattle.verdicts.specs.Given.{is-prime, square-small}
+use Rattle.algebra.specs.TakenPrimes.{is-prime, square-small}
 use Rattle.verdicts.specs.Lifts.{lift-represented}
 use Rattle.verdicts.proofs.lifted.Statement.{statement}
 use Rattle.verdicts.proofs.lifted.Tie as tie
@@ -13,4 +13,4 @@ lifted-spec =
     (tie.spec
     (λ c. omega (arith, square-small _ (c .pre .0)))  -- mul-add-multiple
     (λ c κs. search needs)  -- add-multiple-requires
-    (λ c. lift-represented _ (is-prime _ (c .before .pre .0) .large) _ _ (c .add-multiple .ensures)))  -- returns
+    (λ c. lift-represented _ (is-prime (c .before .pre .0) .large) _ _ (c .add-multiple .ensures)))  -- returns

@@ -1,14 +1,14 @@
--- `dependency::store` meets its contract.
+-- `dependency::monic_row` meets its contract.
 -- Assumes nothing.
 use borrow.Author.Needs.{needs}
 use Rattle.algebra.specs.Fields.{prime-pos}
 use Rattle.modular.specs.Coefficients.{zeros}
-use Rattle.dependency.specs.Storing.{row-stored}
-use Rattle.dependency.proofs.store.Statement.{statement}
-use Rattle.dependency.proofs.store.Tie as tie
+use Rattle.dependency.specs.Storing.{monic-row}
+use Rattle.dependency.proofs.monic_row.Statement.{statement}
+use Rattle.dependency.proofs.monic_row.Tie as tie
 
-pub store-spec : {M : Type 1} → statement M
-store-spec =
+pub monic-row-spec : {M : Type 1} → statement M
+monic-row-spec =
     tie.close
     (tie.spec
     (λ c. search needs)  -- mul-inverse
@@ -18,8 +18,6 @@ store-spec =
     (λ c κs. let pre = c .before .before .before .pre in (zeros _ (prime-pos (pre .0)) .reduced, pre .5, search needs))  -- add-multiple-requires
     (λ c. search needs)  -- add-add-multiple-2
     (λ c κs. let pre = c .before .before .before .before .pre in (zeros _ (prime-pos (pre .0)) .reduced, pre .6, search needs))  -- add-multiple-requires-2
-    (λ c. search needs)  -- mul-r
-    (λ c. search needs)  -- array-set-from-r
     (λ c.
     let pre = c .before .before .before .before .before .pre in
-    row-stored (pre .0) _ (search needs) (c .before .before .inverse .ensures .1) (c .before .add-multiple .ensures) (c .add-multiple2 .ensures)))  -- returns
+    monic-row (pre .0) _ (c .before .before .inverse .ensures .1) (c .before .add-multiple .ensures) (c .add-multiple2 .ensures)))  -- returns

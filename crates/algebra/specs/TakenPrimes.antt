@@ -1,0 +1,27 @@
+-- Taken primes, as the contracts have them: `taken p ≡ true`.
+-- Proves that a taken prime is prime, that it fits a byte, and that its square has 16 bits. Assumes nothing.
+use mathlib.Core.Path.{_≡_, sym, subst}
+use mathlib.Core.Bool.{true}
+use Prim.Native.Nat.{ℕ, _≤_, _<_, _*_}
+use native.Mathlib.Nat.{mul-le-mul}
+use native.Mathlib.Omega.{arith}
+use lib.Dec.{T, ltb, ltb→lt}
+use Rattle.specification.specs.Limits.{primes, taken}
+use Rattle.specification.specs.Lists.{all}
+use Rattle.algebra.specs.Fields.{Prime, taken-prime, prime-pos}
+use Rattle.algebra.specs.ListLaws.{member-passes}
+
+module _ {p : ℕ} (t : taken p ≡ true) where
+  pub is-prime : Prime p
+  is-prime = taken-prime p (subst T (sym t) tt)
+
+  pub is-positive : 0 < p
+  is-positive = prime-pos is-prime
+
+  -- one computed test over the list of primes
+  pub fits-byte : p < 256
+  unfolding taken primes all
+  fits-byte = ltb→lt p 256 (member-passes (λ q. ltb q 256) p primes (subst T (sym t) tt) tt)
+
+pub square-small : (p : ℕ) → taken p ≡ true → p * p ≤ 65025
+square-small p t = mul-le-mul {n₂ = 255} {m₂ = 255} (omega (arith, fits-byte t)) (omega (arith, fits-byte t))
