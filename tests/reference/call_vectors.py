@@ -4,12 +4,12 @@ stdin   for each case its length and the length of the answer area, two bytes ea
 stdout  one line for each case, `number place count`, and the bytes written in hexadecimal if there are any; then `cases N`
 """
 
-import os
 import random
 from typing import Callable, Sequence
 
 from sheet_cases import Call
 from splitter import Outcome
+from stored import write_cases
 
 
 def cases_of(kind: Callable) -> list:
@@ -29,16 +29,5 @@ def outcome_line(outcome: Outcome) -> str:
 
 
 def write_vectors(folder: str, kinds: Sequence[Callable], call: Callable) -> None:
-    """Writes the two files and prints how many cases there are of each kind."""
-    cases = []
-    for kind in kinds:
-        of_kind = cases_of(kind)
-        print("{:5} {}".format(len(of_kind), kind.__name__))
-        cases += of_kind
-    os.makedirs(folder, exist_ok=True)
-    with open(os.path.join(folder, "stdin"), "wb") as out:
-        out.write(b"".join(map(case_bytes, cases)))
-    with open(os.path.join(folder, "stdout"), "w", encoding="ascii", newline="\n") as out:
-        out.writelines(outcome_line(call(case.data, bytes(case.area))) + "\n" for case in cases)
-        out.write("cases {}\n".format(len(cases)))
-    print("{:5} in all".format(len(cases)))
+    """Writes the two files."""
+    write_cases(folder, kinds, cases_of, case_bytes, lambda case: outcome_line(call(case.data, bytes(case.area))))

@@ -4,12 +4,12 @@ stdin   cases of 135 bytes: operation, record a, record b; a record is its prime
 stdout  one line for each case, `number place prime c0 .. c32`, a division's with ` | prime c0 .. c32` after it; then `cases N`
 """
 
-import os
 import sys
 
 import arithmetic
 from arithmetic import Answer, Record
 from arithmetic_cases import DIFFERENCE, DIVISION, KINDS, ONE, PRODUCT, SUM, X, ZERO, Case, cases_of
+from stored import write_cases
 
 NAMED = {ZERO: arithmetic.zero, ONE: arithmetic.one, X: arithmetic.x}
 BINARY = {
@@ -44,19 +44,8 @@ def answer_line(answer: Answer) -> str:
 
 
 def main(folder: str) -> None:
-    """Writes the two files and prints how many cases there are of each kind."""
-    cases = []
-    for kind in KINDS:
-        of_kind = cases_of(kind)
-        print("{:5} {}".format(len(of_kind), kind.__name__))
-        cases += of_kind
-    os.makedirs(folder, exist_ok=True)
-    with open(os.path.join(folder, "stdin"), "wb") as out:
-        out.write(b"".join(map(case_bytes, cases)))
-    with open(os.path.join(folder, "stdout"), "w", encoding="ascii", newline="\n") as out:
-        out.writelines(answer_line(answer_of(case)) + "\n" for case in cases)
-        out.write("cases {}\n".format(len(cases)))
-    print("{:5} in all".format(len(cases)))
+    """Writes the two files."""
+    write_cases(folder, KINDS, cases_of, case_bytes, lambda case: answer_line(answer_of(case)))
 
 
 if __name__ == "__main__":

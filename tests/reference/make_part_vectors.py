@@ -6,7 +6,6 @@ stdout  one line for each record, then `cases N`. A line is `number place`, then
         coefficients from the constant up to the leading 1
 """
 
-import os
 import sys
 from typing import NamedTuple
 
@@ -15,6 +14,7 @@ from make_arithmetic_vectors import record_bytes
 from part_cases import KINDS, cases_of
 from parts import SPLIT, Part, parts_of
 from polynomials import trimmed
+from stored import write_cases
 
 
 class Found(NamedTuple):
@@ -56,19 +56,8 @@ def line_of(record: Record) -> str:
 
 
 def main(folder: str) -> None:
-    """Writes the two files and prints how many cases there are of each kind."""
-    cases = []
-    for kind in KINDS:
-        of_kind = cases_of(kind)
-        print("{:5} {}".format(len(of_kind), kind.__name__))
-        cases += of_kind
-    os.makedirs(folder, exist_ok=True)
-    with open(os.path.join(folder, "stdin"), "wb") as out:
-        out.write(b"".join(map(record_bytes, cases)))
-    with open(os.path.join(folder, "stdout"), "w", encoding="ascii", newline="\n") as out:
-        out.writelines(line_of(case) + "\n" for case in cases)
-        out.write("cases {}\n".format(len(cases)))
-    print("{:5} in all".format(len(cases)))
+    """Writes the two files."""
+    write_cases(folder, KINDS, cases_of, record_bytes, line_of)
 
 
 if __name__ == "__main__":
