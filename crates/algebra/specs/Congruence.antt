@@ -45,7 +45,7 @@ module _ {R : Type 0} (𝓡 : CommRing R) {f : R} where
   congruent-pow {a} {b} zero h = congruent-equal (pow-zero 𝓡 a ∙ sym (pow-zero 𝓡 b))
   congruent-pow {a} {b} (suc n) h = rw (pow-suc 𝓡 a n, pow-suc 𝓡 b n) (congruent-mul h (congruent-pow n h))
 
-  -- what f divides is congruent to 𝟘, and what is congruent to it is divisible too
+  -- a multiple of f is congruent to 𝟘, and what is congruent to a multiple of f is one
   pub congruent-zero : {a : R} → _∣_ 𝓡 f a → Congruent 𝓡 f a 𝟘
   congruent-zero {a} d = rw (solve 𝓡 1 (λ a. a ⊖ con 0 ≈ a) tt a) d
 

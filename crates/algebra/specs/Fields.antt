@@ -72,12 +72,12 @@ module _ (p : ℕ) (P : Prime p) where
           sym (residue-add p (a *ℕ q) r ∙ ap (λ c. c + residue p r) (residue-mul p a q)) ∙ ap (residue p) e
           ∙ residue-self p (prime-pos P)
 
-  -- by descent on a
-  invert : (fuel a : ℕ) → a ≤ fuel → 0 < a → a < p → (b : ℤ/ p) × (residue p a * b ≡ 𝟙)
+  -- by descent on a bound n of a
+  invert : (n a : ℕ) → a ≤ n → 0 < a → a < p → (b : ℤ/ p) × (residue p a * b ≡ 𝟙)
   invert zero a l z s = absurd (omega arith)
-  invert (suc fuel) a l z s = go (eq-or-lt-of-le z) (λ r h k. invert fuel r h k)
+  invert (suc n) a l z s = go (eq-or-lt-of-le z) (λ r h k. invert n r h k)
     where
-      go : (1 ≡ a) ⊎ (1 < a) → ((r : ℕ) → r ≤ fuel → 0 < r → r < p → (b : ℤ/ p) × (residue p r * b ≡ 𝟙))
+      go : (1 ≡ a) ⊎ (1 < a) → ((r : ℕ) → r ≤ n → 0 < r → r < p → (b : ℤ/ p) × (residue p r * b ≡ 𝟙))
           → (b : ℤ/ p) × (residue p a * b ≡ 𝟙)
       go (inl e) f = (𝟙, ap (λ (k : ℕ). residue p k * 𝟙) (sym e) ∙ ap (λ c. c * 𝟙) (residue-one p) ∙ (Residues p) .*-one 𝟙)
       go (inr k) f =

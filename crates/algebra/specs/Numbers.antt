@@ -1,4 +1,5 @@
--- Facts on natural numbers that the kit's library lacks: trichotomy as a choice, remainders inside a remainder, and that p² is large.
+-- Facts on natural numbers that the kit's library lacks: that a < b or b ≤ a, remainders inside a remainder, and that p² is
+-- above 1.
 -- Assumes nothing.
 use mathlib.Core.Path.{_≡_, sym, _∙_, ap}
 use mathlib.Core.Logic.{_⊎_, inl, inr, ⊎-elim}

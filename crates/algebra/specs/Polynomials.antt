@@ -101,7 +101,7 @@ module _ {R : Type 0} {𝓡 : CommRing R} where
   unfoldable pub constant : R → Poly 𝓡
   constant c = record { coef = single 𝓡 c; bounded = ∣ (1, ends-single 𝓡 c) ∣₁ }
 
-  -- x + x² a₁ + ..: the tail of a, one place up
+  -- the coefficients 𝟘, 𝟙, 𝟘, ..
   unfoldable pub x : Poly 𝓡
   x = record { coef = up; bounded = ∣ (2, ends) ∣₁ }
     where

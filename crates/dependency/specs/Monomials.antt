@@ -11,11 +11,10 @@ use lib.Seq.{getD-set-same, getD-set-other}
 use Rattle.algebra.specs.Numbers.{lt-or-le}
 use Rattle.algebra.specs.Residues.{residue, Residues, residue-zero, residue-one}
 use Rattle.algebra.specs.Polynomials.{poly-ext}
+use Rattle.algebra.specs.Monomials.{x^, coef-power-low}
 use Rattle.algebra.specs.Degree.{monic-pow-x}
 use Rattle.algebra.specs.CoefficientLists.{coef-poly}
 use Rattle.algebra.specs.ListShapes.{getD-zeros}
-use Rattle.algebra.specs.Monomials.{coef-power-low}
-use Rattle.algebra.specs.Monomials.{x^}
 use Rattle.modular.specs.Coefficients.{Represents}
 
 abbrev pub IsMonomial : ℕ → List ℕ → Type 0

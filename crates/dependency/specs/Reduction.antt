@@ -8,12 +8,12 @@ use native.Mathlib.Omega.{arith}
 use lib.ListN.{getD}
 use Rattle.algebra.specs.Residues.{residue}
 use Rattle.algebra.specs.Polynomials.{_+_, _·_, 𝟎, constant}
+use Rattle.algebra.specs.Monomials.{x^}
 use Rattle.algebra.specs.Degree.{Below}
 use Rattle.algebra.specs.Division.{below-top}
 use Rattle.algebra.specs.CoefficientLists.{ℤ[x]/, poly, Reduced, coef-poly}
 use Rattle.frobenius.specs.Span.{less}
 use Rattle.frobenius.specs.Reduction.{Stage, Reducing, reducing-more, reducing-down}
-use Rattle.algebra.specs.Monomials.{x^}
 use Rattle.modular.specs.Coefficients.{Represents, Size, below-size}
 use Rattle.modular.specs.Arrays.{size-small}
 use Rattle.dependency.specs.declared.Row.{Row}

@@ -4,19 +4,19 @@
 use mathlib.Core.Path.{_≡_, refl, sym, _∙_, ap, ap₂}
 use mathlib.Core.List.{List, []}
 use mathlib.Core.Logic.{_⊎_, _≢_, ⊎-elim}
-use Prim.Native.Nat.{ℕ, suc, _<_, _≤_, _-_, zero-le}
+use Prim.Native.Nat.{ℕ, _<_, _≤_, _-_, zero-le}
 use lib.ListN.{getD, replicate, getD-replicate, List·getD-eq-default}
 use Rattle.algebra.specs.Ring.{neg-mul}
 use Rattle.algebra.specs.Numbers.{lt-or-le}
 use Rattle.algebra.specs.Residues.{residue, residue-zero, Residues}
 use Rattle.algebra.specs.Polynomials.{PolyRing, _+_, _·_, -_, 𝟎, constant}
+use Rattle.algebra.specs.Monomials.{x^, shift-zero}
 use Rattle.algebra.specs.Degree.{Below, Monic, below-𝟎}
 use Rattle.algebra.specs.Fields.{residue-nontrivial}
 use Rattle.algebra.specs.CoefficientLists.{ℤ[x]/, poly, Reduced, poly-nil, coef-poly}
 use Rattle.algebra.specs.ListDivision.{poly-zeros}
 use Rattle.frobenius.specs.Span.{less, Slot}
 use Rattle.frobenius.specs.Reduction.{Stage, stage-none}
-use Rattle.algebra.specs.Monomials.{x^, shift-zero}
 use Rattle.modular.specs.Coefficients.{Represents, zeros, constant-residue-neg}
 use Rattle.modular.specs.Arrays.{zero-above}
 use Rattle.dependency.specs.declared.Row.{Row}
@@ -45,19 +45,15 @@ pub record Rows (p i : ℕ) (rows : List Row) : Type 0 where
   pub slots : (k : ℕ) → Slot (imageAt p rows) k
   pub preimages : (k : ℕ) → Below i (preimageAt p rows k)
 
-module _ {p i : ℕ} {rows : List Row} (R : Rows p i rows) where
-  pub row-below : (k : ℕ) → Below (suc k) (imageAt p rows k)
-  row-below k = ⊎-elim (λ e. rw e (below-𝟎 (suc k))) (λ m. m .below) (R .slots k)
+module _ {p i : ℕ} {rows : List Row} (R : Rows p i rows) (large : 1 < p) (k : ℕ) (l : k < 33) where
+  -- the entry at the degree tells whether there is a row
+  pub slot-free : getD ((getD rows k past) .image) k 0 ≡ 0 → imageAt p rows k ≡ 𝟎
+  slot-free e =
+      ⊎-elim (λ h. h)
+      (λ m. absurd (residue-nontrivial large (sym (m .leading) ∙ coef-poly p ((getD rows k past) .image) k ∙ ap (residue p) e ∙ residue-zero p))) (R .slots k)
 
-  module _ (large : 1 < p) (k : ℕ) (l : k < 33) where
-    -- the entry at the degree tells whether there is a row
-    pub slot-free : getD ((getD rows k past) .image) k 0 ≡ 0 → imageAt p rows k ≡ 𝟎
-    slot-free e =
-        ⊎-elim (λ h. h)
-        (λ m. absurd (residue-nontrivial large (sym (m .leading) ∙ coef-poly p ((getD rows k past) .image) k ∙ ap (residue p) e ∙ residue-zero p))) (R .slots k)
-
-    pub slot-filled : getD ((getD rows k past) .image) k 0 ≢ 0 → Monic k (imageAt p rows k)
-    slot-filled ne = ⊎-elim (λ h. absurd (ne (zero-above (R .reduced k l) (rw h (below-𝟎 0)) k zero-le))) (λ m. m) (R .slots k)
+  pub slot-filled : getD ((getD rows k past) .image) k 0 ≢ 0 → Monic k (imageAt p rows k)
+  slot-filled ne = ⊎-elim (λ h. absurd (ne (zero-above (R .reduced k l) (rw h (below-𝟎 0)) k zero-le))) (λ m. m) (R .slots k)
 
 module _ (p : ℕ) {t : ℕ → ℤ[x]/ p} {m n o : ℕ} where
   -- the rows are images of x^o, .., x^(i − 1)

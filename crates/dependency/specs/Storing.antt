@@ -1,4 +1,5 @@
--- A row put into its slot: `MonicRow p v k r`, r is a multiple of v with a monic image of degree k; `Stored p rows v k r`, r is rows with such a row in slot k.
+-- A row put into its slot: `MonicRow p v k r`, r is v times the constant that makes the coefficient k of its image 1, so monic where k is the degree;
+-- `Stored p rows v k r`, r is rows with such a row in slot k.
 -- Proves the first of the code's row, and that the stage of a search goes on with the second. Assumes nothing.
 use mathlib.Core.Path.{_≡_, sym, _∙_, ap, subst}
 use mathlib.Core.List.{List}
@@ -9,15 +10,15 @@ use lib.ListN.{length, getD, set, replicate, length-set}
 use lib.Seq.{getD-set-same, getD-set-other}
 use Rattle.algebra.specs.Residues.{ℤ/, residue, Residues}
 use Rattle.algebra.specs.Polynomials.{_+_, _·_, 𝟎, constant}
+use Rattle.algebra.specs.Monomials.{x^}
 use Rattle.algebra.specs.Degree.{Below}
 use Rattle.algebra.specs.Fields.{Prime, prime-pos, residue-field}
 use Rattle.algebra.specs.CoefficientLists.{ℤ[x]/, poly, Reduced, coef-poly}
 use Rattle.frobenius.specs.Reduction.{Stage, Reducing}
 use Rattle.frobenius.specs.LeastDependency.{stage-more}
-use Rattle.algebra.specs.Monomials.{x^}
 use Rattle.modular.specs.Coefficients.{Represents}
-use Rattle.dependency.specs.declared.Row.{Row}
 use Rattle.modular.specs.Inverse.{residue-inverse}
+use Rattle.dependency.specs.declared.Row.{Row}
 use Rattle.dependency.specs.Rows.{past, imageAt, preimageAt, ReducedRows, represents-multiple}
 
 pub record MonicRow (p : ℕ) (v : Row) (k : ℕ) (r : Row) : Type 0 where

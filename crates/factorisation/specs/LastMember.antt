@@ -1,5 +1,5 @@
 -- The last member of a setting: what s − 1 elements with the bar of g leave of a part P = g^m + π·h.
--- Proves the rest of claim G: wherever G^(s − 1) divides the bar of h, any s − 1 such elements multiply to a divisor of P. Assumes nothing.
+-- Proves that any s − 1 such elements multiply to a divisor of P, wherever G^(s − 1) divides the bar of h. Assumes nothing.
 use mathlib.Core.Path.{_≡_, refl, sym, _∙_, ap, ap₂}
 use mathlib.Core.List.{List, [], _∷_}
 use mathlib.Core.List.{List·Memᴰ·head as here}

@@ -71,7 +71,7 @@ module _ {R : Type 0} {𝓡 : CommRing R} where
             linear1 (PolyRing 𝓡) 𝟏 h
             (solve (PolyRing 𝓡) 3 (λ q a b. q ⊗ a ⊕ con 0 ⊖ (con 1 ⊗ a ⊕ (b ⊖ a)) ≈ con 1 ⊗ (q ⊗ a ⊖ b)) tt q a b)
 
-    -- products and powers of monic polynomials are monic
+    -- the monic polynomials are a choice among associated ones
     pub monics : Monics (PolyRing 𝓡) IsMonic
     monics = record {
       monic-one = (0, monic-one);

@@ -6,13 +6,13 @@ use mathlib.Core.Logic.{_≢_, ⊎-elim}
 use Prim.Native.Nat.{ℕ, zero, suc, _≤_, _+_ as _+ℕ_}
 use native.Mathlib.Nat.{le-antisymm}
 use native.Mathlib.Omega.{arith}
-use Rattle.algebra.specs.Ring.{CommRing, one-mul, mul-one, zero-mul, eq-of-sub, linear1}
-use Rattle.algebra.specs.Identities.{con, _⊖_, _⊗_, _≈_, solve}
-use Rattle.algebra.specs.Divisibility.{_∣_, Coprime, pow, pow-zero, pow-suc, pow-add, pow-divides, divides-mul, coprime-mul, gauss}
+use Rattle.algebra.specs.Ring.{CommRing, one-mul, mul-one, zero-mul}
+use Rattle.algebra.specs.Identities.{_⊗_, _≈_, solve}
+use Rattle.algebra.specs.Divisibility.{_∣_, Coprime, pow, pow-zero, pow-add, pow-divides, divides-mul, coprime-mul, gauss}
 use Rattle.algebra.specs.Polynomials.{Poly, PolyRing, _·_, 𝟎}
 use Rattle.algebra.specs.Degree.{Below, Monic, below-up, below-zero, below-factor}
 use Rattle.algebra.specs.Leading.{bound, divides?}
-use Rattle.factorisation.specs.PrimeElements.{PrimeElement}
+use Rattle.factorisation.specs.PrimeElements.{PrimeElement, cancel-equal, mul-pow-top}
 
 pub coprime-not-divides : {R : Type 0} {𝓡 : CommRing R} {G a : R} → PrimeElement 𝓡 G → Coprime 𝓡 G a → ¬ _∣_ 𝓡 G a
 coprime-not-divides {𝓡 = 𝓡} prime c d = prime .nonunit (gauss 𝓡 c (rw one-mul d))
@@ -24,25 +24,16 @@ pub record Multiplicity {R : Type 0} (𝓡 : CommRing R) (G a : R) : Type 0 wher
   pub stop : ¬ _∣_ 𝓡 G w
 
 module _ {R : Type 0} (𝓡 : CommRing R) (G : R) where
-  infixl 60 _+_
   infixl 70 _*_
-  open CommRing 𝓡 using (add as _+_, mul as _*_, neg, 𝟘)
-
-  times-power-suc : (w : R) (k : ℕ) → w * pow 𝓡 G (suc k) ≡ w * pow 𝓡 G k * G
-  times-power-suc w k =
-      ap (λ z. w * z) (pow-suc 𝓡 G k) ∙ solve 𝓡 3 (λ w G x. w ⊗ (G ⊗ x) ≈ w ⊗ x ⊗ G) tt w G (pow 𝓡 G k)
+  open CommRing 𝓡 using (mul as _*_, 𝟘)
 
   module _ (cancel : (q : R) → q * G ≡ 𝟘 → q ≡ 𝟘) where
-    cancel-eq : {a b : R} → a * G ≡ b * G → a ≡ b
-    cancel-eq {a} {b} e =
-        eq-of-sub 𝓡 (cancel (a + neg b) (linear1 𝓡 (𝓡 .𝟙) e (solve 𝓡 3 (λ a b G. (a ⊖ b) ⊗ G ⊖ con 0 ≈ con 1 ⊗ (a ⊗ G ⊖ b ⊗ G)) tt a b G)))
-
     exponent-bound : (w : R) → ¬ _∣_ 𝓡 G w → (j k : ℕ) → _∣_ 𝓡 (pow 𝓡 G j) (w * pow 𝓡 G k) → j ≤ k
     exponent-bound w stop zero k d = omega arith
     exponent-bound w stop (suc j) zero (q, e) =
-        absurd (stop (q * pow 𝓡 G j, sym (times-power-suc q j) ∙ e ∙ ap (λ z. w * z) (pow-zero 𝓡 G) ∙ mul-one 𝓡 w))
+        absurd (stop (q * pow 𝓡 G j, mul-pow-top 𝓡 q j ∙ e ∙ ap (λ z. w * z) (pow-zero 𝓡 G) ∙ mul-one 𝓡 w))
     exponent-bound w stop (suc j) (suc k) (q, e) =
-        let l = exponent-bound w stop j k (q, cancel-eq (sym (times-power-suc q j) ∙ e ∙ times-power-suc w k)) in omega arith
+        let l = exponent-bound w stop j k (q, cancel-equal 𝓡 cancel (mul-pow-top 𝓡 q j ∙ e ∙ sym (mul-pow-top 𝓡 w k))) in omega arith
 
 module _ {R : Type 0} {𝓡 : CommRing R} {G a : R} where
   pub power-divides : (M : Multiplicity 𝓡 G a) {j : ℕ} → j ≤ M .k → _∣_ 𝓡 (pow 𝓡 G j) a
@@ -86,7 +77,7 @@ module _ {R : Type 0} {𝓡 : CommRing R} (decide : Discrete R) {d : ℕ} {G : P
           nonzero z = ne (sym e ∙ ap (λ x. x · G) z ∙ zero-mul (PolyRing 𝓡) G)
 
           up : Multiplicity (PolyRing 𝓡) G q → Multiplicity (PolyRing 𝓡) G a
-          up M = record { k = suc (M .k); w = M .w; law = times-power-suc (PolyRing 𝓡) G (M .w) (M .k) ∙ ap (λ x. x · G) (M .law) ∙ e; stop = M .stop }
+          up M = record { k = suc (M .k); w = M .w; law = sym (mul-pow-top (PolyRing 𝓡) (M .w) (M .k)) ∙ ap (λ x. x · G) (M .law) ∙ e; stop = M .stop }
 
   pub multiplicity : (a : Poly 𝓡) → a ≢ 𝟎 → Multiplicity (PolyRing 𝓡) G a
   multiplicity a = let b = bound decide a in multiplicity-from (b .0) a (b .1)

@@ -1,16 +1,7 @@
 -- Lifting a factorisation into any number of coprime monic factors, and the primary parts of f: monic, with the bars G^m, product f.
--- Proves that they exist and that there is one list of them only, and that one monic divisor of f only has the bar G^m. Assumes nothing.
+-- Proves that they exist, and that only one monic divisor of f has the bar G^m. Assumes nothing.
 use mathlib.Core.Path.{_≡_, refl, sym, _∙_, ap}
-use mathlib.Core.List.{
-  List,
-  [],
-  _∷_,
-  map,
-  List·Memᴰ·not-nil,
-  head-eq-of-cons-eq,
-  tail-eq-of-cons-eq,
-  cons-ne-nil,
-}
+use mathlib.Core.List.{List, [], _∷_, map, List·Memᴰ·not-nil}
 use mathlib.Core.List.{List·Memᴰ·head as here}
 use mathlib.Core.Logic.{_≢_}
 use Prim.Native.Nat.{ℕ}
@@ -19,14 +10,14 @@ use Rattle.algebra.specs.Divisibility.{Coprime, product, product-nil, product-c
 use Rattle.algebra.specs.Polynomials.{Poly, PolyRing, _·_}
 use Rattle.algebra.specs.Degree.{Monic, monic-one, monic-zero, monic-pow}
 use Rattle.algebra.specs.Fields.{Field}
-use Rattle.algebra.specs.Homomorphisms.{keeps-product, map-homomorphism, monic-map}
+use Rattle.algebra.specs.Homomorphisms.{map-homomorphism, monic-map}
 use Rattle.algebra.specs.Extension.{Extension}
 use Rattle.factorisation.specs.Members.{_∈_, All, all-cons, all-tail}
 use Rattle.factorisation.specs.InOrder.{InOrder}
 use Rattle.factorisation.specs.MonicDivisors.{IsMonic, monic-degree, monic-cancel-eq}
 use Rattle.factorisation.specs.Irreducible.{Irreducible}
 use Rattle.factorisation.specs.UniqueFactorisation.{power, Good, Others, power-coprime, coprime-powers, others}
-use Rattle.factorisation.specs.Lifting.{reduce, LiftedPair, lift-two, lift-unique, part-unique}
+use Rattle.factorisation.specs.Lifting.{reduce, LiftedPair, lift-two, part-unique}
 
 -- monic, and each coprime to the product of those that follow
 abbrev pub CoprimeMonics : {R : Type 0} {𝓡 : CommRing R} → List (Poly 𝓡) → Type 0
@@ -41,8 +32,6 @@ module _ {A B : Type 0} {𝓐 : CommRing A} {𝓑 : CommRing B} {bar : A → B} 
     pub multiplies : product (PolyRing 𝓐) L ≡ f
 
   module _ (nontrivial : 𝓑 .𝟙 ≢ 𝓑 .𝟘) where
-    -- ---- existence
-
     lift-nil : {n : ℕ} {f : Poly 𝓐} → Monic n f → product (PolyRing 𝓑) [] ≡ reduce E f → Lifts f [] []
     lift-nil {n} {f} m e = record {
       monic = λ P i. absurd (List·Memᴰ·not-nil i);
@@ -69,44 +58,6 @@ module _ {A B : Type 0} {𝓐 : CommRing A} {𝓑 : CommRing B} {bar : A → B} 
         let (L, h) = lifts decide lift-one l cs (t .monic-b) (sym (t .bar-b)) in
         (t .a ∷ L, lift-cons t h)
 
-    -- ---- uniqueness
-
-    -- the first two factors are equal, and so are the products of the rest
-    heads : {P Q : Poly 𝓐} (L M : List (Poly 𝓐)) → IsMonic P → IsMonic Q → Coprime (PolyRing 𝓑) (reduce E P) (product (PolyRing 𝓑) (map (reduce E) L))
-        → reduce E P ≡ reduce E Q → map (reduce E) L ≡ map (reduce E) M → product (PolyRing 𝓐) (P ∷ L) ≡ product (PolyRing 𝓐) (Q ∷ M)
-        → (P ≡ Q) × (product (PolyRing 𝓐) L ≡ product (PolyRing 𝓐) M)
-    heads {P} {Q} L M m n c h t e = (same, monic-cancel-eq (m .1) rest)
-      where
-        bars : (L : List (Poly 𝓐)) → reduce E (product (PolyRing 𝓐) L) ≡ product (PolyRing 𝓑) (map (reduce E) L)
-        bars = keeps-product (map-homomorphism (E .hom))
-
-        whole : P · product (PolyRing 𝓐) L ≡ Q · product (PolyRing 𝓐) M
-        whole = sym (product-cons (PolyRing 𝓐) P L) ∙ e ∙ product-cons (PolyRing 𝓐) Q M
-
-        same : P ≡ Q
-        same =
-            lift-unique E nontrivial (product (PolyRing 𝓐) L) (product (PolyRing 𝓐) M) (m .1) (n .1) whole
-            (rw (bars M, ← t) c) (rw (bars L, ← h) c)
-
-        rest : product (PolyRing 𝓐) L · P ≡ product (PolyRing 𝓐) M · P
-        rest =
-            (PolyRing 𝓐) .*-comm (product (PolyRing 𝓐) L) P ∙ whole ∙ ap (λ Q. Q · product (PolyRing 𝓐) M) (sym same)
-            ∙ (PolyRing 𝓐) .*-comm P (product (PolyRing 𝓐) M)
-
-    unique-from : (L M : List (Poly 𝓐)) → All IsMonic L → All IsMonic M
-        → CoprimeMonics (map (reduce E) L) → map (reduce E) L ≡ map (reduce E) M → product (PolyRing 𝓐) L ≡ product (PolyRing 𝓐) M → L ≡ M
-    unique-from [] [] m n c b e = refl
-    unique-from [] (Q ∷ M) m n c b e = absurd (cons-ne-nil _ _ (sym b))
-    unique-from (P ∷ L) [] m n c b e = absurd (cons-ne-nil _ _ b)
-    unique-from (P ∷ L) (Q ∷ M) m n (_, c, cs) b e =
-        let (p, q) = heads L M (m P (here refl)) (n Q (here refl)) c (head-eq-of-cons-eq b) (tail-eq-of-cons-eq b) e in
-        let r = unique-from L M (all-tail m) (all-tail n) cs (tail-eq-of-cons-eq b) q in
-        λ i. p i ∷ r i
-
-    pub lifts-unique : {f : Poly 𝓐} {l : List (Poly 𝓑)} {L M : List (Poly 𝓐)} → CoprimeMonics l → Lifts f l L → Lifts f l M → L ≡ M
-    lifts-unique {L = L} {M} c h k =
-        unique-from L M (h .monic) (k .monic) (rw (h .bars) c) (h .bars ∙ sym (k .bars)) (h .multiplies ∙ sym (k .multiplies))
-
 -- ---- primary parts
 
 module _ {R : Type 0} {𝓡 : CommRing R} (field : Field 𝓡) where
@@ -128,10 +79,6 @@ module _ {A B : Type 0} {𝓐 : CommRing A} {𝓑 : CommRing B} {bar : A → B} 
       → (L : List (Poly 𝓐)) × Lifts E f (map power l) L
   primary-parts decide lift-one {l = l} m good =
       lifts E (field .one-ne-zero) decide lift-one (map power l) (powers-coprime field l (good .irreducible) (good .different)) m (good .multiplies)
-
-  pub primary-parts-unique : {f : Poly 𝓐} {l : List (Poly 𝓑 × ℕ)} {L M : List (Poly 𝓐)} → Good (reduce E f) l
-      → Lifts E f (map power l) L → Lifts E f (map power l) M → L ≡ M
-  primary-parts-unique {l = l} good = lifts-unique E (field .one-ne-zero) (powers-coprime field l (good .irreducible) (good .different))
 
   -- P and P′ divide f, with the cofactors C and C′
   pub primary-part-unique : {f : Poly 𝓐} {l : List (Poly 𝓑 × ℕ)} → Good (reduce E f) l → (Q : Poly 𝓑 × ℕ) → Q ∈ l

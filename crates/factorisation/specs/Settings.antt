@@ -1,6 +1,5 @@
 -- Settings of one part: its longest lists, the member of highest multiplicity last.
--- Proves the first half of claim G: all members but the last have the bar G.
--- Assumes nothing.
+-- Proves that all members but the last have the bar G; LastMember has what they leave of the part. Assumes nothing.
 use mathlib.Core.Path.{_≡_, refl, sym, _∙_, ap}
 use mathlib.Core.Logic.{_⊎_, inl, inr}
 use mathlib.Core.List.{List, [], _∷_}
@@ -94,7 +93,7 @@ module _ {A B : Type 0} {𝓐 : CommRing A} {𝓑 : CommRing B} {bar : A → B} 
             (divides-mul-both 𝓑 (divides-refl 𝓑 (pow 𝓑 (bar g) (e x))) (f .divides)))));
       }
 
-  -- ---- claim G, from settings to bars
+  -- ---- from settings to bars
 
   module _ (M : Monics 𝓑 Monic) (monicG : Monic (bar g)) (r : ℕ) (sr : s +ℕ r ≡ m)
       {xs : List A} {y : A} (l : Setting xs y) where

@@ -2,12 +2,12 @@
 -- Proves that it adds, that constants have none, the product rule, and that the derivative of a^m is m·a^(m−1) times that of a. Assumes nothing.
 use mathlib.Core.Path.{_≡_, refl, sym, _∙_, ap, ap₂}
 use mathlib.Core.Logic.{∥∥₁-map}
-use Prim.Native.Nat.{ℕ, zero, suc, _+_ as _+ℕ_}
+use Prim.Native.Nat.{ℕ, zero, suc}
 use native.Mathlib.Omega.{arith}
 use Rattle.algebra.specs.Ring.{mul-zero, mul-add, mul-left-comm}
 use Rattle.algebra.specs.Identities.{con, _⊕_, _⊗_, _≈_, solve}
 use Rattle.algebra.specs.Divisibility.{pow, pow-zero, pow-one, pow-suc}
-use Rattle.algebra.specs.Residues.{ℤ/, residue, Residues, residue-one, residue-add}
+use Rattle.algebra.specs.Residues.{ℤ/, residue, Residues, residue-one}
 use Rattle.algebra.specs.Polynomials.{
   Poly,
   PolyRing,
@@ -29,6 +29,7 @@ use Rattle.algebra.specs.Polynomials.{
   constant-one,
 }
 use Rattle.algebra.specs.Degree.{Below}
+use Rattle.frobenius.specs.Frobenius.{residue-suc}
 
 module _ {n : ℕ} where
   unfoldable pub derivative : Poly (Residues n) → Poly (Residues n)
@@ -47,10 +48,6 @@ module _ {n : ℕ} where
     high = λ k l.
         coef-derivative a k ∙ ap ((Residues n) .mul (residue n (suc k))) (h .high (suc k) (omega arith)) ∙ mul-zero (Residues n) (residue n (suc k));
   }
-
-  number-suc : (k : ℕ) → residue n (suc k) ≡ (Residues n) .add ((Residues n) .𝟙) (residue n k)
-  number-suc k =
-      ap (residue n) (let e : suc k ≡ 1 +ℕ k = omega arith in e) ∙ residue-add n 1 k ∙ ap (λ c. (Residues n) .add c (residue n k)) (residue-one n)
 
   -- ---- sums, constants, multiples by x
 
@@ -85,7 +82,7 @@ module _ {n : ℕ} where
           ∙ sym (coef-add a (x · derivative a) 0 ∙ ap ((Residues n) .add (a .coef 0)) (coef-x-mul-zero (derivative a))
           ∙ solve (Residues n) 1 (λ c. c ⊕ con 0 ≈ c) tt (a .coef 0))
       at (suc k) =
-          ap (λ c. (Residues n) .mul c (a .coef (suc k))) (number-suc (suc k))
+          ap (λ c. (Residues n) .mul c (a .coef (suc k))) (residue-suc n (suc k))
           ∙ solve (Residues n) 2 (λ m c. (con 1 ⊕ m) ⊗ c ≈ c ⊕ m ⊗ c) tt (residue n (suc k)) (a .coef (suc k))
           ∙ sym (coef-add a (x · derivative a) (suc k)
           ∙ ap ((Residues n) .add (a .coef (suc k))) (coef-x-mul-suc (derivative a) k ∙ coef-derivative a k))
@@ -159,5 +156,5 @@ module _ {n : ℕ} where
     where
       next : constant (residue n (suc (suc m))) ≡ (PolyRing (Residues n)) .𝟙 + constant (residue n (suc m))
       next =
-          ap constant (number-suc (suc m)) ∙ constant-add ((Residues n) .𝟙) (residue n (suc m))
+          ap constant (residue-suc n (suc m)) ∙ constant-add ((Residues n) .𝟙) (residue n (suc m))
           ∙ ap (λ c. c + constant (residue n (suc m))) (constant-one (Residues n))

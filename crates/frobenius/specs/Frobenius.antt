@@ -126,6 +126,11 @@ module _ {A : Type 0} (𝓐 : CommRing A) (b : A) where
 
 -- ---- a ring with a homomorphism from ℤ/p
 
+-- the class of k + 1
+pub residue-suc : (n k : ℕ) → residue n (suc k) ≡ (Residues n) .add ((Residues n) .𝟙) (residue n k)
+residue-suc n k =
+    ap (residue n) (let e : suc k ≡ 1 +ℕ k = omega arith in e) ∙ residue-add n 1 k ∙ ap (λ c. (Residues n) .add c (residue n k)) (residue-one n)
+
 module _ {p : ℕ} (P : Prime p) {A : Type 0} {𝓐 : CommRing A} {ι : ℤ/ p → A} (h : Homomorphism (Residues p) 𝓐 ι) where
   infixl 60 _∔_
   infixl 70 _*_
@@ -138,7 +143,7 @@ module _ {p : ℕ} (P : Prime p) {A : Type 0} {𝓐 : CommRing A} {ι : ℤ/ p �
   number-one = ap ι (residue-one p) ∙ h .keeps-one
 
   number-suc : (k : ℕ) → number (suc k) ≡ 𝟙 ∔ number k
-  number-suc k = ap number (let e : suc k ≡ 1 +ℕ k = omega arith in e) ∙ ap ι (residue-add p 1 k) ∙ h .keeps-add _ _ ∙ ap (λ c. c ∔ number k) number-one
+  number-suc k = ap ι (residue-suc p k) ∙ h .keeps-add _ _ ∙ ap (λ c. c ∔ number k) (h .keeps-one)
 
   number-p : number p ≡ 𝟘
   number-p = ap ι (residue-self p (prime-pos P)) ∙ keeps-zero h

@@ -1,14 +1,14 @@
--- The map v ↦ v^q on polynomials over ℤ/p, p a prime, for the powers q of p: it adds, and keeps the constants (Fermat).
--- Proves it of p and of products, that the map is linear, and that it is given by the images (x^q)^i of the x^i; so v^q − v is given by
--- the images (x^q)^i − x^i. Assumes nothing.
+-- The map v ↦ v^q on polynomials over ℤ/p, p a prime: `FrobeniusPower p q`, it adds, and keeps the constants, as it does for the powers q of p.
+-- Proves it of q = p (Fermat); and of every such q that the map is linear and given by the images (x^q)^i of the x^i, so that v^q − v is given
+-- by the images (x^q)^i − x^i. Assumes nothing.
 use mathlib.Core.Path.{_≡_, refl, sym, _∙_, ap, ap₂}
-use Prim.Native.Nat.{ℕ, zero, suc, _<_, _+_ as _+ℕ_}
+use Prim.Native.Nat.{ℕ, zero, suc, _<_}
 use native.Mathlib.Nat.{mul-comm as mul-commℕ}
 use native.Mathlib.Omega.{arith}
 use Rattle.algebra.specs.Ring.{CommRing, zero-mul}
 use Rattle.algebra.specs.Identities.{_⊗_, _≈_, solve}
 use Rattle.algebra.specs.Divisibility.{pow, pow-zero, pow-suc, pow-mul}
-use Rattle.algebra.specs.Residues.{ℤ/, residue, Residues, residue-zero, residue-one, residue-add, residue-value}
+use Rattle.algebra.specs.Residues.{ℤ/, residue, Residues, residue-zero, residue-value}
 use Rattle.algebra.specs.Polynomials.{Poly, PolyRing, _+_, _·_, -_, x, constant, constant-one, constant-add, constant-mul}
 use Rattle.algebra.specs.Monomials.{x^}
 use Rattle.algebra.specs.Degree.{Below}
@@ -16,7 +16,7 @@ use Rattle.algebra.specs.Leading.{poly-discrete}
 use Rattle.algebra.specs.Fields.{Prime, prime-pos, residue-discrete}
 use Rattle.algebra.specs.Homomorphisms.{Homomorphism, keeps-pow}
 use Rattle.frobenius.specs.LinearMaps.{apply, apply-zero, apply-suc, apply-monomials, apply-sub}
-use Rattle.frobenius.specs.Frobenius.{frobenius}
+use Rattle.frobenius.specs.Frobenius.{residue-suc, frobenius}
 
 module _ {R : Type 0} (𝓡 : CommRing R) where
   infixl 70 _*_
@@ -50,7 +50,7 @@ module _ {p : ℕ} where
   abbrev pub _^_ : Poly (Residues p) → ℕ → Poly (Residues p)
   a ^ n = pow (PolyRing (Residues p)) a n
 
--- q is a power of p: what is used of it
+-- what is used of a power q of p
 pub record FrobeniusPower (p q : ℕ) : Type 0 where
   pub positive : 0 < q
   pub adds : (a b : Poly (Residues p)) → (a + b) ^ q ≡ a ^ q + b ^ q
@@ -60,12 +60,9 @@ module _ {p : ℕ} (P : Prime p) where
   fermat-number : (k : ℕ) → pow (Residues p) (residue p k) p ≡ residue p k
   fermat-number zero = rw (residue-zero p) (pow-of-zero (Residues p) p (prime-pos P))
   fermat-number (suc k) =
-      ap (λ c. pow (Residues p) c p) next
+      ap (λ c. pow (Residues p) c p) (residue-suc p k)
       ∙ frobenius P (identity (Residues p)) (residue-discrete p) ((Residues p) .𝟙) (residue p k)
-      ∙ ap₂ ((Residues p) .add) (pow-of-one (Residues p) p) (fermat-number k) ∙ sym next
-    where
-      next : residue p (suc k) ≡ (Residues p) .add ((Residues p) .𝟙) (residue p k)
-      next = ap (residue p) (let e : suc k ≡ 1 +ℕ k = omega arith in e) ∙ residue-add p 1 k ∙ ap (λ c. (Residues p) .add c (residue p k)) (residue-one p)
+      ∙ ap₂ ((Residues p) .add) (pow-of-one (Residues p) p) (fermat-number k) ∙ sym (residue-suc p k)
 
   -- c^p = c
   pub fermat : (c : ℤ/ p) → pow (Residues p) c p ≡ c

@@ -45,7 +45,7 @@ module _ {R : Type 0} {𝓡 : CommRing R} (t : ℕ → Poly 𝓡) (m o : ℕ) wh
 
 -- m images, n slots
 module _ {R : Type 0} {𝓡 : CommRing R} (t : ℕ → Poly 𝓡) (m n o : ℕ) where
-  -- the image of x^i is reduced to u, of which x^κ is no term, nor any higher power
+  -- the image of x^i is reduced to u by the slots from κ on, and w goes to u
   module _ {r s : ℕ → Poly 𝓡} {i κ : ℕ} {u w : Poly 𝓡} (S : Stage t m n o r s i) (D : Reducing t m n o r i κ u w) where
     pub stage-found : u ≡ 𝟎 → LeastDependency t m o i w
     stage-found e = record { monic = D .monic; base = D .base; kernel = D .image ∙ e; least = S .injective }

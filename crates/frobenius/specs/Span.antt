@@ -105,7 +105,7 @@ module _ {R : Type 0} {𝓡 : CommRing R} where
         go (inr h) f = (𝟘, rw (less-𝟘 (r k) (r n)) (f (omega arith)))
 
     module _ (slots : (k : ℕ) → Slot r k) where
-      row-below : (k : ℕ) → Below (suc k) (r k)
+      pub row-below : (k : ℕ) → Below (suc k) (r k)
       row-below k = ⊎-elim (λ e. rw e (below-𝟎 (suc k))) (λ m. m .below) (slots k)
 
       span-below : (n : ℕ) (y : Poly 𝓡) → Span r n y → Below n y

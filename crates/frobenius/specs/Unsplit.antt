@@ -14,7 +14,6 @@ use Rattle.algebra.specs.Degree.{Below, Monic, below-up, below-add, below-neg, 
 use Rattle.algebra.specs.Division.{Divided}
 use Rattle.algebra.specs.Leading.{divide}
 use Rattle.algebra.specs.Fields.{Prime, residue-field, residue-discrete}
-use Rattle.factorisation.specs.MonicDivisors.{divisor-degree}
 use Rattle.algebra.specs.Congruence.{
   Congruent,
   congruent-equal,
@@ -26,6 +25,7 @@ use Rattle.algebra.specs.Congruence.{
   divides-congruent,
   congruent-remainder,
 }
+use Rattle.factorisation.specs.MonicDivisors.{divisor-degree}
 use Rattle.frobenius.specs.FrobeniusPowers.{_^_, frobenius-prime, power-constant}
 use Rattle.frobenius.specs.SplittingElements.{CoprimeFactors}
 

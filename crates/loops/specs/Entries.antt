@@ -1,7 +1,7 @@
 -- Loops that store into an array entry by entry: `Replaced d f a k r i` says that r is a with the entries from k up to i replaced by
 -- f's values. Proves how such a loop begins and goes on. Assumes nothing.
 use mathlib.Core.Path.{_≡_, refl, _∙_}
-use mathlib.Core.List.{List, []}
+use mathlib.Core.List.{List}
 use Prim.Native.Nat.{ℕ, _+_, _<_, _≤_}
 use native.Mathlib.Nat.{le-refl}
 use native.Mathlib.Decide.{ℕ-discrete}

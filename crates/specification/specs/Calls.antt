@@ -40,7 +40,7 @@ within area o = cond (ltb area answerArea) (refused 1 0) o
 
 -- ---- a sheet's answer
 
--- an accepted sheet is answered, a fault given back; bytes that nobody reads wait in the `let`
+-- an accepted sheet is answered, a fault given back (the `let` keeps the bytes from being worked out where only number and place are asked for)
 unfoldable pub answerTo : Reading → Outcome
 answerTo (accepted s) = let bytes : List ℕ = answer s in success bytes
 answerTo (fault k at) = refused k at

@@ -15,13 +15,13 @@ use Rattle.specification.specs.Answers.{answer}
 use Rattle.specification.specs.FactorList.{factorList, factorTotal, differentTotal}
 use Rattle.specification.specs.Calls.{Outcome, splitCall, count, areaAfter}
 
--- a "monic polynomial of degree 1 or more", modulo n
+-- one of the "monic polynomials of degree 1 or more", modulo n
 pub record Monic (n : ℕ) (f : Poly) : Type 0 where
   pub positive : 1 ≤ degree f
   pub leadsWithOne : leading f ≡ 1
   pub reduced : (i : ℕ) → i < length f → getD f i 0 < n
 
--- "degree 1 or more, and not a product of two polynomials of degree 1 or more (both monic, where it is monic)"
+-- "degree 1 or more, and not a product of two polynomials of degree 1 or more (both monic, where it is monic)"; here f is monic
 pub record Irreducible (n : ℕ) (f : Poly) : Type 0 where
   pub monic : Monic n f
   pub noProduct : (a b : Poly) → Monic n a → Monic n b → mul n a b ≡ f → ⊥
@@ -117,6 +117,7 @@ Items1to3 = (bytes : List ℕ) (s : Sheet) → readSheet bytes ≡ accepted s �
 -- ---- items 4 to 9
 
 -- items 4 to 9 of the part over a power: its factors are a longest list of it, with the fewest different ones
+-- (which verdict is given in which case is said by `Parts.splitting` itself)
 pub record PartSplit (p : ℕ) (f : Poly) (P : Power) : Type 0 where
   pub longest : let L : List Poly = members (partOf p f P) in Longest (p * p) (primary p f P) L (length L) (different L)
   -- "m times", "m1 times", "once"

@@ -6,7 +6,7 @@ use mathlib.Core.List.{List, [], _∷_, _++_, map, flatMap}
 use Rattle.specification.specs.Lists.{first, below}
 use Rattle.specification.specs.Polynomials.{Poly, degree, reduce, pow, lift, quotient, divides}
 
--- ---- all polynomials modulo p: "coefficients are compared from the highest power down, smaller first"
+-- ---- all polynomials modulo p: "coefficients .. are compared from the highest power down, smaller first"
 
 -- those of k coefficients: the constant changes first, the highest power last
 unfoldable pub polynomials : ℕ → ℕ → List Poly

@@ -1,4 +1,4 @@
--- What is claimed of settings, of an answer's bytes and of the answer reader, as types. No search stands in them.
+-- What is claimed of settings, of the bytes of answers and of sheets, and of the answer reader, as types. No search stands in them.
 -- `Settings` counts settings by a one-to-one correspondence with strings of digits.
 use mathlib.Core.Path.{_≡_}
 use mathlib.Core.Logic.{_↔_}

@@ -36,7 +36,7 @@ pub record Called (o : calls.Outcome) (r : Outcome) (old new : List ℕ) : Type 
   -- the bytes written, and after them the old ones
   pub area : new ≡ calls.areaAfter o old
 
--- "on a refusal all the old ones"
+-- "changes no byte of the answer area"
 pub called-refused : {o : calls.Outcome} {k at : ℕ} {r : Outcome} {area : List ℕ} → o ≡ calls.refused k at → IsRefused k at r → Called o r area area
 called-refused {o} {k} {at} {r} {area} e h = record {
   number = ap (λ (a : Outcome). a .number) h ∙ sym (ap (λ (a : calls.Outcome). a .number) e);

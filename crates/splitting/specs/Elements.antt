@@ -40,7 +40,7 @@ element-found P m h a = record {
   unsplit = λ e. injective-unsplit P m (difference-remainders h) (a .none e);
 }
 
--- e is a splitting element of Q, of degree d, where it is known
+-- where e is known, it is a splitting element of Q; Q is of degree d
 pub record Known (p d : ℕ) (Q : ℤ[x]/ p) (e : Element) : Type 0 where
   pub reduced : e .known ≡ true → Reduced p 33 (e .v)
   pub splits : e .known ≡ true → SplittingElement p d Q (poly p (e .v))
@@ -49,7 +49,7 @@ pub element-known : {p d : ℕ} {q : List ℕ} {e : Element} {k : ℕ} → Known
     → ElementFound p d q (record { found = true; degree = k; v = e .v })
 element-known h z = record { reduced = λ y. h .reduced z; splits = λ y. h .splits z; unsplit = λ y. absurd (true≢false y) }
 
--- of whatever polynomial v is a splitting element, if b divides it
+-- whatever Q may be of which v is a splitting element and which b divides; that r is known is not promised: it only saves a search
 abbrev pub ForFactor : (p d : ℕ) → List ℕ → ℕ → List ℕ → Element → Type 0
 ForFactor p d v j b r = (Q : ℤ[x]/ p) → SplittingElement p d Q (poly p v) → _∣_ (PolyRing (Residues p)) (poly p b) Q → Known p j (poly p b) r
 

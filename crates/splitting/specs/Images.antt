@@ -13,13 +13,13 @@ use Rattle.algebra.specs.Ring.{mul-one}
 use Rattle.algebra.specs.Identities.{con, _⊗_, ⊝_, _≈_, solve}
 use Rattle.algebra.specs.Residues.{residue, Residues}
 use Rattle.algebra.specs.Polynomials.{PolyRing, _+_, _·_, -_, constant}
+use Rattle.algebra.specs.Monomials.{x^}
 use Rattle.algebra.specs.Degree.{below-up, below-add, below-neg, monic-pow-x}
 use Rattle.algebra.specs.CoefficientLists.{ℤ[x]/, poly}
 use Rattle.algebra.specs.Congruence.{congruent-equal, congruent-add}
 use Rattle.frobenius.specs.LinearMaps.{Remainders}
 use Rattle.frobenius.specs.FrobeniusPowers.{_^_}
 use Rattle.frobenius.specs.PowerDependencies.{differenceImages}
-use Rattle.algebra.specs.Monomials.{x^}
 use Rattle.modular.specs.Coefficients.{Represents, poly-unit, constant-residue-one, constant-residue-neg}
 use Rattle.quotients.specs.Remainder.{Remainder}
 use Rattle.dependency.specs.declared.Image.{Image}

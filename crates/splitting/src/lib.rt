@@ -41,7 +41,7 @@ pub fn images(q: [u16; 33], d: usize, p: u16) -> [Image; 33]
     r
 }
 
-// A v that is not constant, of lower degree than q, with v^p = v modulo q.
+// A v that is not constant, of lower degree than q, with v^p = v modulo q, where there is one.
 pub fn splitting_element(q: [u16; 33], d: usize, p: u16) -> Found
     requires { ⌜ Prime p × (0 < d) × (d < 33) × Monic d (poly p q) ⌝ }
     ensures { λ r. ⌜ ElementFound p d q r ⌝ }
@@ -50,7 +50,7 @@ pub fn splitting_element(q: [u16; 33], d: usize, p: u16) -> Found
     least_dependency(t, 1, d, p)
 }
 
-// A splitting element of q: the one at hand, if it is known, or else one that is looked for.
+// A splitting element of q: the one at hand, if it is known, or else one that is looked for. The degree that is given with it says nothing.
 pub fn element_of(q: [u16; 33], d: usize, e: Element, p: u16) -> Found
     requires { ⌜ Prime p × (0 < d) × (d < 33) × Monic d (poly p q) × Known p d (poly p q) e ⌝ }
     ensures { λ r. ⌜ ElementFound p d q r ⌝ }

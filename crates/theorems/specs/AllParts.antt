@@ -27,13 +27,13 @@ use Rattle.theorems.specs.MonicLists.{MonicList, monic-poly, monic-list-
 use Rattle.theorems.specs.MonicDivision.{monic-list-one}
 use Rattle.theorems.specs.Irreducibles.{irreducible-poly}
 use Rattle.theorems.specs.PowersOnly.{different-bases}
-use Rattle.theorems.specs.Reductions.{barred, bar-poly, digits-monic}
+use Rattle.theorems.specs.Reductions.{barred, digits-monic}
 use Rattle.theorems.specs.Items.{powers-are, items}
 use Rattle.theorems.specs.ListExtension.{extension}
 use Rattle.theorems.specs.DifferentMembers.{different-factors, different-append}
 use Rattle.theorems.specs.AnswerLayout.{listOf-cons}
 use Rattle.theorems.specs.PartForm.{PartOver, part-over, base-monic}
-use Rattle.theorems.specs.SplitPart.{SplitPart}
+use Rattle.theorems.specs.SplitPart.{SplitPart, bar-base}
 use Rattle.theorems.specs.Verdicts.{part-splits}
 use Rattle.theorems.specs.PartShapes.{partDegrees, records}
 
@@ -78,13 +78,10 @@ module _ (p : ℕ) (prime : Prime p) {d : ℕ} {f : spec.Poly} (mf : MonicList (
 
   -- ---- the bars of the bases are coprime
 
-  bar-base : {P : Power} (k : Known P) → barred p large (k .split .ring .g) ≡ poly p (P .base)
-  bar-base {P} k = ap (barred p large) (k .split .g-is) ∙ bar-poly p large (P .base)
-
   coprime : {P Q : Power} (k : Known P) (l : Known Q) → claims.Before (P .base) (Q .base)
       → Coprime (PolyRing (Residues p)) (barred p large (k .split .ring .g)) (barred p large (l .split .ring .g))
   coprime k l b =
-      rw (bar-base k, bar-base l)
+      rw (bar-base (k .split), bar-base (l .split))
       (different-coprime (residue-field p prime) (irreducible-poly large (k .over .irreducible)) (irreducible-poly large (l .over .irreducible))
       (different-bases p prime (k .over .irreducible .monic) (l .over .irreducible .monic) b))
 

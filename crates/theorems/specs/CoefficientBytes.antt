@@ -6,10 +6,11 @@ use Prim.Native.Nat.{ℕ, zero, suc, _<_, _+_}
 use native.Mathlib.Nat.{add-zero, zero-add, suc-add, add-suc}
 use native.Mathlib.Omega.{arith}
 use lib.ListN.{length, getD, take}
-use lib.Seq.{length-take-le, take-all, take-suc}
+use lib.Seq.{length-take-le, take-suc}
 use Rattle.specification.specs.Polynomials.{Poly, degree, lower}
 use Rattle.specification.specs.Sheets.{coefficientBytes}
 use Rattle.specification.specs.Claims as claims
+use Rattle.theorems.specs.ListEnds.{then, last-again}
 
 coefficientBytes-append : (i : ℕ) (f g : Poly) → coefficientBytes i (f ++ g) ≡ coefficientBytes i f ++ coefficientBytes (i + length f) g
 unfolding coefficientBytes
@@ -40,5 +41,4 @@ length-lower f = length-take-le (degree f) f (omega arith)
 -- "leading coefficient 1": the top is all that is not written
 pub lower-top : {n : ℕ} (f : Poly) → claims.Monic n f → lower f ++ (1 ∷ []) ≡ f
 lower-top f m =
-    ap (λ (a : ℕ). lower f ++ (a ∷ [])) (sym (m .leadsWithOne)) ∙ sym (take-suc f (degree f) 0 (omega (arith, m .positive)))
-    ∙ take-all (suc (degree f)) f (omega (arith, m .positive))
+    ap (then (lower f)) (sym (m .leadsWithOne)) ∙ sym (last-again (degree f) f 0 (omega (arith, m .positive)))

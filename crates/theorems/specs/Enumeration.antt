@@ -3,7 +3,7 @@
 use mathlib.Core.Path.{_≡_, refl, _∙_, ap, subst}
 use mathlib.Core.List.{[], _∷_, _++_, map, Memᴰ·of-map, Memᴰ·map, Memᴰ·cast, List·Memᴰ·append-cases, Memᴰ·append-left, Memᴰ·append-right}
 use mathlib.Core.List.{List·Memᴰ·head as here}
-use mathlib.Core.Logic.{_⊎_, inl, inr, ⊎-elim}
+use mathlib.Core.Logic.{inl, inr, ⊎-elim}
 use Prim.Native.Nat.{ℕ, zero, suc, _≤_, _<_, _+_}
 use native.Mathlib.Nat.{eq-or-lt-of-le}
 use native.Mathlib.Omega.{arith}
@@ -17,8 +17,9 @@ use Rattle.algebra.specs.CoefficientLists.{Reduced}
 use Rattle.algebra.specs.ListLaws.{upFrom-member, upFrom-has}
 use Rattle.algebra.specs.ListShapes.{low-take}
 use Rattle.factorisation.specs.Members.{_∈_}
-use Rattle.theorems.specs.MonicLists.{MonicList}
 use Rattle.factorisation.specs.InOrder.{InOrder, in-order-by, in-order-append, in-order-map, in-order-flatMap, mem-flatMap, flatMap-mem}
+use Rattle.theorems.specs.MonicLists.{MonicList}
+use Rattle.theorems.specs.ListEnds.{then, last-again}
 
 -- ---- 0, 1, .., p − 1
 
@@ -94,10 +95,7 @@ low-topped l (a ∷ f) h zero = h 0
 low-topped l (a ∷ f) h (suc k) = low-topped l f (λ i. h (suc i)) k
 
 topped-again : (d : ℕ) (f : Poly) → length f ≡ suc d → getD f d 0 ≡ 1 → f ≡ topped (take d f)
-topped-again d [] h e = absurd (omega arith)
-topped-again zero (a ∷ []) h e = ap (λ (b : ℕ). b ∷ []) e
-topped-again zero (a ∷ b ∷ f) h e = absurd (omega arith)
-topped-again (suc d) (a ∷ f) h e = ap (λ (g : Poly). a ∷ g) (topped-again d f (omega arith) e)
+topped-again d f h e = last-again d f 0 h ∙ ap (then (take d f)) e
 
 degree-is : {n d : ℕ} {f : Poly} → MonicList n d f → degree f ≡ d
 degree-is m = omega (arith, m .reduced .len)

@@ -1,5 +1,6 @@
 -- Coefficient lists over the square-zero extension ℤ/p²[x] → ℤ/p[x]: the specification's q + p·t, and f/p entry by entry.
--- Proves that q + p·t is monic where q is and t is of lower degree modulo p, and that f/p is the part of f. Assumes nothing.
+-- Proves that a monic list of degree 1 or more has a monic bar and is no unit, that q + p·t is monic where q is and t is of lower degree modulo p,
+-- and that f/p is the part of f. Assumes nothing.
 use mathlib.Core.Path.{_≡_, sym, _∙_, ap, subst}
 use mathlib.Core.List.{map}
 use Prim.Native.Nat.{ℕ, suc, _≤_, _<_, _/_, _*_ as _*ℕ_}
@@ -7,22 +8,35 @@ use native.Mathlib.Nat.{zero-div, mod-eq-of-lt}
 use native.Mathlib.Omega.{arith}
 use lib.ListN.{length, getD}
 use Rattle.specification.specs.Polynomials as spec
+use Rattle.specification.specs.Claims as claims
 use Rattle.algebra.specs.Numbers.{square-large}
 use Rattle.algebra.specs.Residues.{residue, Residues, value-residue}
 use Rattle.algebra.specs.Polynomials.{PolyRing, _+_, _·_, constant, poly-ext}
-use Rattle.algebra.specs.Degree.{Below, Monic, monic-add}
+use Rattle.algebra.specs.Degree.{Below, Monic, monic-add, monic-one}
+use Rattle.algebra.specs.Homomorphisms.{monic-map}
+use Rattle.algebra.specs.Fields.{residue-nontrivial}
 use Rattle.algebra.specs.Extension.{Extension, poly-extension, poly-π, coef-part, residue-π, residue-part}
 use Rattle.algebra.specs.CoefficientLists.{poly, coef-poly}
 use Rattle.algebra.specs.ListShapes.{length-add, length-scale, low-reduce, getD-map}
+use Rattle.factorisation.specs.MonicDivisors.{divisor-degree}
 use Rattle.factorisation.specs.ExtensionLaws.{π-equal}
 use Rattle.factorisation.specs.PolynomialExtension.{below-lift, below-π}
-use Rattle.theorems.specs.MonicLists.{MonicList, monic-poly, monic-reduced}
+use Rattle.factorisation.specs.LongestLists.{Proper}
+use Rattle.theorems.specs.MonicLists.{MonicList, monic-poly, monic-reduced, from-claims}
 use Rattle.theorems.specs.Reductions.{coefficients, barred, bar-poly, poly-lift}
 
 module _ (p : ℕ) (large : 1 < p) where
   -- ℤ/p²[x] → ℤ/p[x]
   abbrev pub extension : Extension (PolyRing (Residues (p *ℕ p))) (PolyRing (Residues p)) (barred p large)
   extension = poly-extension (coefficients p large)
+
+  module _ {q : spec.Poly} (m : claims.Monic (p *ℕ p) q) where
+    pub monic-bar : Monic (spec.degree q) (barred p large (poly (p *ℕ p) q))
+    monic-bar = monic-map ((coefficients p large) .hom) (monic-poly (from-claims (omega (arith, square-large p large)) m))
+
+    -- degree 1 or more: no unit
+    pub monic-proper : Proper extension (poly (p *ℕ p) q)
+    monic-proper v = omega (arith, m .positive, divisor-degree (residue-nontrivial large) monic-bar monic-one v)
 
   pub π-is : extension .π ≡ constant (residue (p *ℕ p) p)
   π-is = poly-π (coefficients p large) ∙ ap constant (residue-π p (omega arith))

@@ -15,13 +15,12 @@ use Rattle.algebra.specs.Ring.{CommRing, mul-one}
 use Rattle.algebra.specs.Divisibility.{product, product-nil, product-cons}
 use Rattle.algebra.specs.Residues.{Residues}
 use Rattle.algebra.specs.Polynomials.{PolyRing, _·_}
-use Rattle.algebra.specs.Degree.{monic-one}
 use Rattle.algebra.specs.Homomorphisms.{monic-map}
 use Rattle.algebra.specs.Fields.{Prime, residue-nontrivial}
 use Rattle.algebra.specs.CoefficientLists.{ℤ[x]/, poly, poly-mul, poly-product}
 use Rattle.factorisation.specs.Members.{_∈_, All, all-cons, all-map}
 use Rattle.factorisation.specs.Sums.{total as sum}
-use Rattle.factorisation.specs.MonicDivisors.{IsMonic, monics, divisor-degree}
+use Rattle.factorisation.specs.MonicDivisors.{IsMonic, monics}
 use Rattle.factorisation.specs.Monics.{MonicMap}
 use Rattle.factorisation.specs.LongestLists.{Part, Apart, FactorList, LongestList, Proper, whole, length-at-most, no-product}
 use Rattle.factorisation.specs.FewestDifferent.{different-at-least}
@@ -30,7 +29,7 @@ use Rattle.theorems.specs.MonicDivision.{monic-list-product}
 use Rattle.theorems.specs.Factorisations.{monic-equal, factorisation, factorisation-product}
 use Rattle.theorems.specs.Reductions.{coefficients, barred}
 use Rattle.theorems.specs.Items.{powers-are, items}
-use Rattle.theorems.specs.ListExtension.{extension}
+use Rattle.theorems.specs.ListExtension.{extension, monic-proper}
 use Rattle.theorems.specs.DifferentMembers.{decide, different-polys}
 use Rattle.theorems.specs.PartShapes.{records}
 use Rattle.theorems.specs.AllParts.{
@@ -63,15 +62,6 @@ module _ (p : ℕ) (prime : Prime p) {d : ℕ} {f : spec.Poly} (mf : MonicList (
   is-monic : {q : spec.Poly} → claims.Monic (p *ℕ p) q → MonicList (p *ℕ p) (spec.degree q) q
   is-monic = from-claims positive
 
-  -- none is a unit
-  proper : (q : spec.Poly) → claims.Monic (p *ℕ p) q → Proper (extension p large) (poly (p *ℕ p) q)
-  proper q m v =
-      omega (
-        arith,
-        m .positive,
-        divisor-degree (residue-nontrivial large) (monic-map ((coefficients p large) .hom) (monic-poly (is-monic m))) monic-one v,
-      )
-
   monic-map-of : MonicMap 𝓐 (PolyRing (Residues p)) (barred p large) IsMonic IsMonic
   monic-map-of = record {
     above = monics (residue-nontrivial (square-large p large));
@@ -98,7 +88,7 @@ module _ (p : ℕ) (prime : Prime p) {d : ℕ} {f : spec.Poly} (mf : MonicList (
     factors-F : {M : List spec.Poly} → claims.Factorisation (p *ℕ p) F M → FactorList (extension p large) Q (map (poly (p *ℕ p)) M)
     factors-F {M} l = record {
       factors = factorisation-product (square-large p large) l ∙ sym whole-F;
-      proper = all-map (Proper (extension p large)) (poly (p *ℕ p)) M (λ q i. proper q (l .monic q i));
+      proper = all-map (Proper (extension p large)) (poly (p *ℕ p)) M (λ q i. monic-proper p large (l .monic q i));
     }
 
     -- the list of the definitions
@@ -143,7 +133,7 @@ module _ (p : ℕ) (prime : Prime p) {d : ℕ} {f : spec.Poly} (mf : MonicList (
         monic = L-monic q i;
         noProduct = λ a b m n k.
             no-product (extension p large) apart (longest-list L-list refl)
-            (poly (p *ℕ p) q) (Memᴰ·map (poly (p *ℕ p)) i) (poly (p *ℕ p) a) (poly (p *ℕ p) b) (proper a m) (proper b n)
+            (poly (p *ℕ p) q) (Memᴰ·map (poly (p *ℕ p)) i) (poly (p *ℕ p) a) (poly (p *ℕ p) b) (monic-proper p large m) (monic-proper p large n)
             (ap (poly (p *ℕ p)) (sym k) ∙ poly-mul (p *ℕ p) positive a b);
       };
       longest = λ M l. omega (arith, length-at-most (extension p large) apart (factors-F l), length-map M (poly (p *ℕ p)), list-size p prime mf Ps h);

@@ -1,5 +1,5 @@
 -- Divisors among monic coefficient lists: `Divides n g f` is divisibility of the polynomials.
--- Proves that the specification's `divides` decides it, that an exact quotient is a monic list again and multiplies back to f,
+-- Proves that an exact quotient is a monic list again and multiplies back to f, that powers and products of monic lists are monic lists,
 -- and what `highest` finds. Assumes nothing.
 use mathlib.Core.Path.{_≡_, refl, sym, _∙_, subst}
 use mathlib.Core.Bool.{Bool, true, false}

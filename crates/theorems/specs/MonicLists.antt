@@ -1,10 +1,10 @@
 -- Monic coefficient lists and monic polynomials over ℤ/n are the same thing: `list m a` writes out the first m coefficients of a.
--- Proves that lists of monic polynomials multiply to lists of the right length, and that each is found again from its polynomial.
+-- Proves that products of monic lists are monic lists, of the right length, and that a monic list is found again from its polynomial.
 -- Assumes nothing.
 use mathlib.Core.Path.{_≡_, refl, sym, _∙_, ap, subst}
 use mathlib.Core.List.{List, [], _∷_}
 use mathlib.Core.Logic.{⊎-elim}
-use Prim.Native.Nat.{ℕ, zero, suc, _≤_, _<_, _-_, _+_ as _+ℕ_}
+use Prim.Native.Nat.{ℕ, zero, suc, _≤_, _<_, _+_ as _+ℕ_}
 use native.Mathlib.Nat.{mod-eq-of-lt}
 use native.Mathlib.Omega.{arith}
 use lib.ListN.{length, getD, List·getD-eq-default}

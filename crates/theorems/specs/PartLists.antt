@@ -16,22 +16,21 @@ use Rattle.algebra.specs.Ring.{CommRing, mul-one}
 use Rattle.algebra.specs.Divisibility.{_∣_, product, product-nil, product-cons}
 use Rattle.algebra.specs.Residues.{Residues}
 use Rattle.algebra.specs.Polynomials.{PolyRing, _·_}
-use Rattle.algebra.specs.Degree.{Monic, monic-one, monic-pow}
-use Rattle.algebra.specs.Homomorphisms.{monic-map}
+use Rattle.algebra.specs.Degree.{Monic, monic-pow}
 use Rattle.algebra.specs.Fields.{Prime, residue-nontrivial}
 use Rattle.algebra.specs.CoefficientLists.{ℤ[x]/, poly, poly-reduce, same-list}
 use Rattle.algebra.specs.ListShapes.{length-reduce, low-reduce}
 use Rattle.factorisation.specs.Members.{_∈_, All, all-cons, all-map, member-divides}
 use Rattle.factorisation.specs.Sums.{total-nil, total-cons}
-use Rattle.factorisation.specs.MonicDivisors.{IsMonic, monics, monic-degree, divisor-degree}
+use Rattle.factorisation.specs.MonicDivisors.{IsMonic, monics, monic-degree}
 use Rattle.factorisation.specs.LongestLists.{Part, Proper, length-at-most}
 use Rattle.factorisation.specs.Blocks.{multiplicity, divisor-bar}
 use Rattle.factorisation.specs.Settings.{Setting, first-bar}
 use Rattle.theorems.specs.MonicLists.{MonicList, monic-poly, from-claims}
-use Rattle.theorems.specs.Reductions.{coefficients, barred, bar-poly}
-use Rattle.theorems.specs.ListExtension.{extension}
+use Rattle.theorems.specs.Reductions.{barred, bar-poly}
+use Rattle.theorems.specs.ListExtension.{extension, monic-bar, monic-proper}
 use Rattle.theorems.specs.PartForm.{PartOver, base-monic}
-use Rattle.theorems.specs.SplitPart.{SplitPart}
+use Rattle.theorems.specs.SplitPart.{SplitPart, bar-base}
 use Rattle.theorems.specs.ListEnds.{then}
 use Rattle.theorems.specs.Factorisations.{factorisation-product, product-then}
 use Rattle.theorems.specs.NumberedLifts.{LiftOf}
@@ -50,11 +49,8 @@ module _ {p : ℕ} (prime : Prime p) {G : spec.Poly} {m : ℕ} {part : spec.Poly
   abbrev 𝓐 : CommRing (ℤ[x]/ n)
   𝓐 = PolyRing (Residues n)
 
-  pub bar-base : barred p large (S .ring .g) ≡ poly p G
-  bar-base = ap (barred p large) (S .g-is) ∙ bar-poly p large G
-
   monic-base : Monic (spec.degree G) (barred p large (S .ring .g))
-  monic-base = rw bar-base (monic-poly (base-monic large over))
+  monic-base = rw (bar-base S) (monic-poly (base-monic large over))
 
   base-is-monic : IsMonic (barred p large (S .ring .g))
   base-is-monic = (spec.degree G, monic-base)
@@ -62,29 +58,22 @@ module _ {p : ℕ} (prime : Prime p) {G : spec.Poly} {m : ℕ} {part : spec.Poly
   -- ---- one member
 
   module _ {x : spec.Poly} (monic : claims.Monic n x) where
-    member-bar : Monic (spec.degree x) (barred p large (poly n x))
-    member-bar = monic-map ((coefficients p large) .hom) (monic-poly (from-claims pos monic))
-
-    -- degree 1 or more: no unit
-    member-proper : Proper (extension p large) (poly n x)
-    member-proper v = omega (arith, monic .positive, divisor-degree (residue-nontrivial large) member-bar monic-one v)
-
     member-degree : _∣_ 𝓐 (poly n x) (S .ring .P) → spec.degree x ≡ multiplicity (extension p large) (S .ring) (poly n x) *ℕ spec.degree G
     member-degree v =
-        monic-degree (residue-nontrivial large) member-bar
+        monic-degree (residue-nontrivial large) (monic-bar p large monic)
         (subst (Monic (multiplicity (extension p large) (S .ring) (poly n x) *ℕ spec.degree G))
-        (sym (divisor-bar (extension p large) (monics (residue-nontrivial large)) (S .ring) base-is-monic v (spec.degree x, member-bar)))
+        (sym (divisor-bar (extension p large) (monics (residue-nontrivial large)) (S .ring) base-is-monic v (spec.degree x, monic-bar p large monic)))
         (monic-pow monic-base (multiplicity (extension p large) (S .ring) (poly n x))))
 
     member-lift : barred p large (poly n x) ≡ barred p large (S .ring .g) → LiftOf p G x
     member-lift e = record {
       monic = subst (λ (d : ℕ). MonicList n d x) degree (from-claims pos monic);
       bar = same-list (record { len = length-reduce p x ∙ omega (arith, degree, monic .positive); low = low-reduce p (omega arith) x })
-          (base-monic large over .reduced) (poly-reduce p (omega arith) x ∙ sym (bar-poly p large x) ∙ e ∙ bar-base);
+          (base-monic large over .reduced) (poly-reduce p (omega arith) x ∙ sym (bar-poly p large x) ∙ e ∙ bar-base S);
     }
       where
         degree : spec.degree x ≡ spec.degree G
-        degree = monic-degree (residue-nontrivial large) member-bar (rw e monic-base)
+        degree = monic-degree (residue-nontrivial large) (monic-bar p large monic) (rw e monic-base)
 
   -- ---- all members
 
@@ -100,7 +89,7 @@ module _ {p : ℕ} (prime : Prime p) {G : spec.Poly} {m : ℕ} {part : spec.Poly
             (record {
               factors = factorisation-product (square-large p large) l ∙ sym (S .P-is)
                   ∙ sym (product-cons 𝓐 (S .ring .P) [] ∙ ap (λ a. S .ring .P · a) (product-nil 𝓐) ∙ mul-one 𝓐 (S .ring .P));
-              proper = all-map (Proper (extension p large)) (poly n) L (λ x i. member-proper (l .monic x i));
+              proper = all-map (Proper (extension p large)) (poly n) L (λ x i. monic-proper p large (l .monic x i));
             }),
       )
 
@@ -122,9 +111,9 @@ module _ {p : ℕ} (prime : Prime p) {G : spec.Poly} {m : ℕ} {part : spec.Poly
     setting = record {
       count = ap suc (length-map xs (poly n)) ∙ count;
       factors = factors;
-      monic = all-cons (spec.degree y, member-bar last-monic)
-          (all-map (λ a. IsMonic (barred p large a)) (poly n) xs (λ x i. (spec.degree x, member-bar (first-monic x i))));
-      proper = all-cons (member-proper last-monic) (all-map (Proper (extension p large)) (poly n) xs (λ x i. member-proper (first-monic x i)));
+      monic = all-cons (spec.degree y, monic-bar p large last-monic)
+          (all-map (λ a. IsMonic (barred p large a)) (poly n) xs (λ x i. (spec.degree x, monic-bar p large (first-monic x i))));
+      proper = all-cons (monic-proper p large last-monic) (all-map (Proper (extension p large)) (poly n) xs (λ x i. monic-proper p large (first-monic x i)));
       order = all-map (λ a. e a ≤ e (poly n y)) (poly n) xs
           (λ x i. le-of-mul-le-mul-right {k = spec.degree G}
           (omega (
@@ -139,7 +128,7 @@ module _ {p : ℕ} (prime : Prime p) {G : spec.Poly} {m : ℕ} {part : spec.Poly
         e : ℤ[x]/ n → ℕ
         e = multiplicity (extension p large) (S .ring)
 
-    -- claim G: all before the last have the bar G
+    -- all before the last have the bar G
     pub first-lifted : All (LiftOf p G) xs
     first-lifted x i =
         member-lift (first-monic x i)

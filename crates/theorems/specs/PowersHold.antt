@@ -4,9 +4,9 @@
 use mathlib.Core.Path.{_≡_, refl, sym, _∙_, ap, ap₂, subst}
 use mathlib.Core.List.{List, [], _∷_, _++_, map, append-assoc, List·Memᴰ·cases-cons, List·Memᴰ·append-cases, List·Memᴰ·eq-of-singleton, Memᴰ·append-right}
 use mathlib.Core.List.{List·Memᴰ·head as here, List·Memᴰ·tail as there}
-use mathlib.Core.Logic.{_⊎_, ⊎-elim}
+use mathlib.Core.Logic.{⊎-elim}
 use Prim.Native.Nat.{ℕ, zero, suc, _≤_, _<_, _-_, _+_ as _+ℕ_, _*_ as _*ℕ_}
-use native.Mathlib.Nat.{suc-mul, zero-mul}
+use native.Mathlib.Nat.{suc-mul, zero-mul, le-mul-of-pos-right}
 use native.Mathlib.Omega.{arith}
 use lib.ListN.{length}
 use Rattle.specification.specs.Polynomials as spec
@@ -106,7 +106,7 @@ module _ (p : ℕ) (large : 1 < p) (n : ℕ) where
     taken-out : Divides p G rest → ⊥
     taken-out (q, h) =
         ⊎-elim (λ l. top .top (suc k) (omega arith) l next) (λ l. omega
-        (arith, exact large (monic-list-pow large mG (suc k)) mf next .low, mf .reduced .len, suc-mul k e, mul-le k))
+        (arith, exact large (monic-list-pow large mG (suc k)) mf next .low, mf .reduced .len, suc-mul k e, le-mul-of-pos-right k low))
         (lt-or-le k (spec.degree f))
       where
         next : Divides p (spec.pow p G (suc k)) f
@@ -116,10 +116,6 @@ module _ (p : ℕ) (large : 1 < p) (n : ℕ) where
               ∙ sym ((PolyRing (Residues p)) .*-assoc q (poly p G) (poly p (spec.pow p G k)))
               ∙ ap (λ a. a · poly p (spec.pow p G k)) h ∙ out .law,
         )
-
-        mul-le : (j : ℕ) → j ≤ j *ℕ e
-        mul-le zero = omega arith
-        mul-le (suc j) = omega (arith, suc-mul j e, mul-le j)
 
     pub tried-more : Tried (Cs ++ (G ∷ [])) Gs rest
     tried-more = record {
@@ -175,7 +171,7 @@ module _ (p : ℕ) (large : 1 < p) (n : ℕ) where
       later-found mG l u mf fits t later
       (found Gs (Cs ++ (G ∷ [])) (out mG l u mf fits t .monic) (omega arith) s (tried-more mG l u mf fits t))
 
--- items 1 and 3 of a monic list f of degree 1 or more
+-- items 1 and 3 of a list f whose bar is monic
 pub powers-hold : (p : ℕ) → 1 < p → {d : ℕ} (f : spec.Poly) → MonicList p d (spec.reduce p f) → claims.PowersOf p (spec.reduce p f) (powers p f)
 unfolding powers
 powers-hold p large {d} f m =

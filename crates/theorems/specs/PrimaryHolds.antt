@@ -13,7 +13,7 @@ use Rattle.specification.specs.Claims as claims
 use Rattle.algebra.specs.Numbers.{square-large}
 use Rattle.algebra.specs.Divisibility.{_∣_, product}
 use Rattle.algebra.specs.Residues.{ℤ/, residue, Residues, residue-one, value-residue}
-use Rattle.algebra.specs.Polynomials.{PolyRing, _·_}
+use Rattle.algebra.specs.Polynomials.{PolyRing}
 use Rattle.algebra.specs.Degree.{Monic}
 use Rattle.algebra.specs.Extension.{residue-lift}
 use Rattle.algebra.specs.Fields.{Prime, residue-field, residue-discrete, residue-nontrivial}

@@ -1,7 +1,7 @@
 -- Lists modulo p² and their bars: the specification's `reduce p` and `lift p` are reduction and lift of polynomials over ℤ/p² → ℤ/p.
 -- Proves that the lifts of a monic list q are exactly the monic lists modulo p² whose bar is q. Assumes nothing.
 use mathlib.Core.Path.{_≡_, refl, sym, _∙_, ap, ap₂, subst}
-use mathlib.Core.List.{List, [], map, Memᴰ·of-map, Memᴰ·map, Memᴰ·cast}
+use mathlib.Core.List.{List, map, Memᴰ·of-map, Memᴰ·map, Memᴰ·cast}
 use mathlib.Core.Logic.{⊎-elim}
 use Prim.Native.Nat.{ℕ, _≤_, _<_, _%_, _/_, _*_ as _*ℕ_}
 use native.Mathlib.Nat.{mod-add-div, mul-le-mul-left, div-eq-of-lt, zero-div, div-lt-iff-lt-mul, eq-or-lt-of-le}

@@ -92,15 +92,16 @@ module _ (p : ℕ) (prime : Prime p) {d : ℕ} {f : spec.Poly} (mf : MonicList (
 
   -- ---- all parts
 
-  abbrev InOrder : List (List spec.Poly) → Type 0
-  InOrder Bs = Settings n (primary p f) (s p f) (powers p f) Bs
+  -- a setting of each part, in order
+  abbrev SettingOfEach : List (List spec.Poly) → Type 0
+  SettingOfEach Bs = Settings n (primary p f) (s p f) (powers p f) Bs
 
-  length-is : (Bs : List (List spec.Poly)) → InOrder Bs → length (joined Bs) ≡ totals.total (partsOf p f)
+  length-is : (Bs : List (List spec.Poly)) → SettingOfEach Bs → length (joined Bs) ≡ totals.total (partsOf p f)
   length-is Bs h = settings-length n (primary p f) (s p f) (powers p f) Bs h ∙ sym (total-is p f)
 
   -- ---- settings
 
-  setting : (Bs : List (List spec.Poly)) → InOrder Bs → promises.Setting p f (joined Bs)
+  setting : (Bs : List (List spec.Poly)) → SettingOfEach Bs → promises.Setting p f (joined Bs)
   setting Bs h = record {
     list = factorisation large² mf (joined Bs) (settings-monic n (primary p f) (s p f) (powers p f) Bs h)
         (settings-product n (primary p f) (s p f) pos (powers p f) Bs h
@@ -111,8 +112,8 @@ module _ (p : ℕ) (prime : Prime p) {d : ℕ} {f : spec.Poly} (mf : MonicList (
     inParts = settings-in-parts n (primary p f) (s p f) (powers p f) Bs h;
   }
 
-  in-order : (L : List spec.Poly) → promises.Setting p f L → (Bs : List (List spec.Poly)) × InOrder Bs × (joined Bs ≡ L)
-  in-order L t = (
+  setting-of-each : (L : List spec.Poly) → promises.Setting p f L → (Bs : List (List spec.Poly)) × SettingOfEach Bs × (joined Bs ≡ L)
+  setting-of-each L t = (
     t .byPart,
     parts-settings n (primary p f) (s p f) (powers p f) (t .byPart) part-at-most (t .inParts)
         (subst (All (claims.Monic n)) (sym (t .joined)) (t .list .monic)) (omega (arith, long, ap length (t .joined), total-is p f)),
@@ -121,10 +122,12 @@ module _ (p : ℕ) (prime : Prime p) {d : ℕ} {f : spec.Poly} (mf : MonicList (
     where
       -- as long as the list of the definitions
       long : totals.total (partsOf p f) ≤ length L
-      long = t .longest (totals.listOf (partsOf p f)) (record { monic = λ q i. longest p prime mf .irreducible q i .monic; multiplies = longest p prime mf .multiplies })
+      long =
+          let L-is = longest p prime mf in
+          t .longest (totals.listOf (partsOf p f)) (record { monic = λ q i. L-is .irreducible q i .monic; multiplies = L-is .multiplies })
 
   pub settings-counted : promises.SettingsCounted p f
   settings-counted =
       subst (λ (k : ℕ). Numbered p k (promises.Setting p f)) (free-is p f)
       (carried (each-numbered (λ P. PartSetting n (primary p f P) (s p f P)) (free p f) (powers p f) part-numbered)
-      joined setting (settings-joined n (primary p f) (s p f) (powers p f)) in-order)
+      joined setting (settings-joined n (primary p f) (s p f) (powers p f)) setting-of-each)

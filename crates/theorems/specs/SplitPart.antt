@@ -51,9 +51,14 @@ pub record SplitPart (p : ℕ) (large : 1 < p) (G : spec.Poly) (m : ℕ) (part :
   pub P-is : ring .P ≡ poly (p *ℕ p) part
   pub s-is : ring .s ≡ length (flatMap copies qs)
   pub z-is : ring .z ≡ length qs
-  -- s members need not more than m, nor a higher power of G in h bar than there is
+  -- s is m at most, and G^(s − 1) divides h bar
   pub room : ring .s ≤ m
   pub divides : _∣_ (PolyRing (Residues p)) (pow (PolyRing (Residues p)) (poly p G) (ring .s - 1)) (barred p large (ring .h))
+
+-- the bar of g is G
+pub bar-base : {p : ℕ} {large : 1 < p} {G : spec.Poly} {m : ℕ} {part : spec.Poly} {qs : List Factor} (S : SplitPart p large G m part qs)
+    → barred p large (S .ring .g) ≡ poly p G
+bar-base {p} {large} {G} S = ap (barred p large) (S .g-is) ∙ bar-poly p large G
 
 -- where the repeats are m at most, a factor of lower degree than G would leave the degrees' sum too small
 lowest : (d e t u m : ℕ) → 1 ≤ t → t +ℕ u ≤ m → e *ℕ t +ℕ d *ℕ u ≡ m *ℕ d → d ≤ e

@@ -1,7 +1,7 @@
 -- Items 4 to 9: the specification's splitting of a part over G to the m.
 -- Proves that the factors of each verdict split the part; the cases stand in the document's order. Assumes nothing.
 use mathlib.Core.Path.{_≡_, refl, sym, _∙_, ap, ap₂, subst}
-use mathlib.Core.Bool.{Bool, true, false, not, cond, _&&_}
+use mathlib.Core.Bool.{not, _&&_}
 use mathlib.Core.List.{[], _∷_}
 use mathlib.Core.Logic.{_⊎_, inl, inr, _≢_}
 use lib.Dec.{T, eqb, eqb→eq, eqb-refl, T-not, not-T}
@@ -23,7 +23,7 @@ use Rattle.algebra.specs.Degree.{Below, below-constant-mul}
 use Rattle.algebra.specs.Homomorphisms.{keeps-zero}
 use Rattle.algebra.specs.Fields.{Prime, prime-pos}
 use Rattle.algebra.specs.CoefficientLists.{ℤ[x]/, poly, poly-pow, poly-scale}
-use Rattle.algebra.specs.Tests.{both, left, right}
+use Rattle.algebra.specs.Tests.{picked, both, left, right}
 use Rattle.algebra.specs.ListShapes.{length-scale, low-reduce}
 use Rattle.algebra.specs.ListDivision.{poly-isZero, isZero-poly}
 use Rattle.factorisation.specs.ExtensionLaws.{number, bar-mul, bar-mul-pow, bar-pow, bar-number, π-equal, binomial}
@@ -34,13 +34,8 @@ use Rattle.theorems.specs.ListExtension.{extension, lift-is, lift-list-m
 use Rattle.theorems.specs.PartForm.{PartOver, PowerDivides, HighestPower, base-monic, power-monic, shape, bar-h, highest-power}
 use Rattle.theorems.specs.SplitPart.{SplitPart, one-factor, two-factors}
 
--- by what a test comes out as
-cond-by : {A : Type 0} (P : A → Type 0) (b : Bool) {x y : A} → (T b → P x) → (¬ T b → P y) → P (cond b x y)
-cond-by P true f g = f tt
-cond-by P false f g = g (λ t. t)
-
-passes : {a b : ℕ} → a ≡ b → T (eqb a b)
-passes {a} e = subst (λ (c : ℕ). T (eqb a c)) e (eqb-refl a)
+eqb-equal : {a b : ℕ} → a ≡ b → T (eqb a b)
+eqb-equal {a} e = subst (λ (c : ℕ). T (eqb a c)) e (eqb-refl a)
 
 module _ {p : ℕ} (prime : Prime p) {G : spec.Poly} {m : ℕ} {part : spec.Poly} (over : PartOver p G m part) where
   abbrev 𝓐 : CommRing (ℤ[x]/ (p *ℕ p))
@@ -157,17 +152,17 @@ module _ {p : ℕ} (prime : Prime p) {G : spec.Poly} {m : ℕ} {part : spec.Poly
   unfolding splitting
   part-splits =
       -- item 4
-      cond-by Splits (eqb m 1) (λ t. part-itself (inl (omega (arith, eqb→eq m 1 t))))
+      picked Splits (eqb m 1) (λ t. part-itself (inl (omega (arith, eqb→eq m 1 t))))
       -- item 6
-      (λ not4. cond-by Splits (spec.isZero (hBar p G m part)) (λ t. g-repeated (poly-isZero p (hBar p G m part) t))
-      (λ not6. let H : HighestPower large over = highest-power large over (λ e. not6 (is-zero e)) in
+      (λ not4. picked Splits (spec.isZero (hBar p G m part)) (λ t. g-repeated (poly-isZero p (hBar p G m part) t))
+      (λ not6. let H : HighestPower large over = highest-power large over (λ e. T-not (spec.isZero (hBar p G m part)) not6 (is-zero e)) in
       -- item 7
-      cond-by Splits (eqb k 0) (λ t. part-itself (inr (solid H (eqb→eq k 0 t))))
+      picked Splits (eqb k 0) (λ t. part-itself (inr (solid H (eqb→eq k 0 t))))
       -- item 8
-      (λ not7. cond-by Splits (not (eqb (m % p) 0) && eqb k (m - 1))
+      (λ not7. picked Splits (not (eqb (m % p) 0) && eqb k (m - 1))
       (λ t. let (unit, last) = read t in lift-repeated H unit (omega (arith, last, H .less)))
       -- item 9
-      (λ not8. g-and-last H (pos-of-ne-zero (λ e. not7 (passes e))) (λ e. multiple not8 (omega arith))))))
+      (λ not8. g-and-last H (pos-of-ne-zero (λ e. T-not (eqb k 0) not7 (eqb-equal e))) (λ e. multiple not8 (omega arith))))))
     where
       Splits : Splitting → Type 0
       Splits S = SplitPart p large G m part (S .factors)
@@ -177,16 +172,18 @@ module _ {p : ℕ} (prime : Prime p) {G : spec.Poly} {m : ℕ} {part : spec.Poly
 
       read : T (not (eqb (m % p) 0) && eqb k (m - 1)) → (m % p ≢ 0) × (k ≡ m - 1)
       read t = (
-        λ e. T-not (eqb (m % p) 0) (left (not (eqb (m % p) 0)) (eqb k (m - 1)) t) (passes e),
+        λ e. T-not (eqb (m % p) 0) (left (not (eqb (m % p) 0)) (eqb k (m - 1)) t) (eqb-equal e),
         eqb→eq k (m - 1) (right (not (eqb (m % p) 0)) (eqb k (m - 1)) t),
       )
 
-      multiple : ¬ T (not (eqb (m % p) 0) && eqb k (m - 1)) → k ≡ m - 1 → m % p ≡ 0
+      multiple : T (not (not (eqb (m % p) 0) && eqb k (m - 1))) → k ≡ m - 1 → m % p ≡ 0
       multiple not8 e = go (ℕ-discrete (m % p) 0)
         where
           go : Dec (m % p ≡ 0) → m % p ≡ 0
           go (yes z) = z
-          go (no n) = absurd (not8 (both (not (eqb (m % p) 0)) (eqb k (m - 1)) (not-T (eqb (m % p) 0) (λ t. n (eqb→eq (m % p) 0 t))) (passes e)))
+          go (no n) =
+              absurd (T-not (not (eqb (m % p) 0) && eqb k (m - 1)) not8
+              (both (not (eqb (m % p) 0)) (eqb k (m - 1)) (not-T (eqb (m % p) 0) (λ t. n (eqb→eq (m % p) 0 t))) (eqb-equal e)))
 
       solid : HighestPower large over → k ≡ 0 → ¬ PowerDivides large over 1
       solid H e = subst (λ (j : ℕ). ¬ PowerDivides large over (suc j)) e (H .exact)

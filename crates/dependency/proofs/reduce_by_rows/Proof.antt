@@ -4,7 +4,8 @@ use Prim.Native.Nat.{_-_}
 use native.Mathlib.Omega.{arith}
 use borrow.Author.Needs.{needs}
 use Rattle.algebra.specs.Degree.{below-up}
-use Rattle.dependency.specs.Rows.{row-below, slot-free}
+use Rattle.frobenius.specs.Span.{row-below}
+use Rattle.dependency.specs.Rows.{slot-free}
 use Rattle.dependency.specs.Reduction.{ReducedTo, reduced-none, fewer, reduced-more}
 use Rattle.dependency.proofs.reduce_by_rows.Statement.{statement}
 use Rattle.dependency.proofs.reduce_by_rows.Tie as tie
@@ -35,14 +36,15 @@ reduce-by-rows-spec =
     (λ c. search needs)  -- array-read-c
     (λ c. omega (arith, c .before .before .before .before .before .loop .inv .image .low (c .before .before .before .before .before .loop .k - 1)))  -- sub-c-2
     (λ c κs.
-    let inv = c .before .before .before .before .before .loop .inv in (
-      inv .image,
-      below-up (omega arith)
-          (row-below (c .before .before .before .before .before .before .before .before .before .pre .3)
-          (c .before .before .before .before .before .loop .k - 1)),
-      search (needs, inv .size .limit),
-    ))  -- add-multiple-requires
-    (λ c κs. (c .before .before .before .before .before .before .loop .inv .preimage, c .before .before .before .before .before .before .before .before .before .before .pre .3 .preimages (c .before .before .before .before .before .before .loop .k - 1), search needs))  -- add-multiple-requires-2
+    let rows = c .before .before .before .before .before .before .before .before .before .pre .3 in
+    let inv = c .before .before .before .before .before .loop .inv in
+    let k = c .before .before .before .before .before .loop .k in
+    (inv .image, below-up (omega arith) (row-below _ (rows .slots) (k - 1)), search (needs, inv .size .limit)))  -- add-multiple-requires
+    (λ c κs.
+    let rows = c .before .before .before .before .before .before .before .before .before .before .pre .3 in
+    let inv = c .before .before .before .before .before .before .loop .inv in
+    let k = c .before .before .before .before .before .before .loop .k in
+    (inv .preimage, rows .preimages (k - 1), search needs))  -- add-multiple-requires-2
     (λ c κs. search needs)  -- size-requires-2
     (λ c.
     let pre = c .before .before .before .before .before .before .before .before .before .before .before .before .pre in

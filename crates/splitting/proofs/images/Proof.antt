@@ -1,4 +1,4 @@
--- `splitting::images` meets its contract. The loop has w = x^(p·i) modulo q.
+-- `splitting::images` meets its contract. The loop has power = x^(p·i) modulo q.
 -- Assumes nothing.
 use Prim.Native.Nat.{_-_, _≤_}
 use borrow.Author.Needs.{needs}
@@ -12,10 +12,10 @@ use Rattle.splitting.proofs.images.Statement.{statement}
 use Rattle.splitting.proofs.images.Tie as tie
 
 abbrev Inv-loop : tie.InvT-loop
-Inv-loop q d p r₀ unit w₀ i₀ r w i = PowerImages p q d i r × Remainder p q d w (x^ p ^ i) × (i ≤ d)
+Inv-loop q d p r₀ unit power₀ i₀ r power i = PowerImages p q d i r × Remainder p q d power (x^ p ^ i) × (i ≤ d)
 
 abbrev μ-loop : tie.MeasureT-loop
-μ-loop q d p r₀ unit w₀ i₀ r w i = d - i
+μ-loop q d p r₀ unit power₀ i₀ r power i = d - i
 
 pub images-spec : {M : Type 1} → statement M
 images-spec =
