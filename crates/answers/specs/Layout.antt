@@ -8,7 +8,7 @@ use native.Mathlib.Omega.{arith}
 use lib.ListN.{length, getD, take}
 use lib.Seq.{take-suc}
 use lib.Dec.{T}
-use Rattle.specification.specs.Polynomials.{Poly, degree}
+use Rattle.specification.specs.Polynomials.{Poly}
 use Rattle.specification.specs.Parts as parts
 use Rattle.specification.specs.Totals.{listOf, total, different, freeDigits}
 use Rattle.specification.specs.Sheets.{coefficientBytes}

@@ -3,7 +3,7 @@
 -- Proves that a row made monic says the same, and that b and a are the first two remainders. Assumes nothing.
 use mathlib.Core.Path.{_≡_, refl, _∙_, ap}
 use mathlib.Core.List.{List, _∷_}
-use Prim.Native.Nat.{ℕ, _≤_, _<_, _-_}
+use Prim.Native.Nat.{ℕ, _≤_, _<_}
 use native.Mathlib.Nat.{le-refl}
 use native.Mathlib.Omega.{arith}
 use lib.ListN.{replicate}
@@ -15,9 +15,8 @@ use Rattle.algebra.specs.Polynomials.{PolyRing, _·_, constant}
 use Rattle.algebra.specs.Degree.{Below, Monic, below-up, below-constant-mul, below-𝟎}
 use Rattle.algebra.specs.CoefficientLists.{ℤ[x]/, poly, Reduced}
 use Rattle.algebra.specs.Congruence.{Congruent, congruent-sym, congruent-equal, congruent-mul, congruent-zero}
-use Rattle.modular.specs.Coefficients.{Represents, Size, zeros, below-unit}
+use Rattle.modular.specs.Coefficients.{Represents, Size, zeros, unit, below-unit}
 use Rattle.modular.specs.Arrays.{size-small}
-use Rattle.quotients.specs.Power.{one}
 use Rattle.euclid.specs.MonicMultiples.{MonicMultipleOf}
 use Rattle.euclid.specs.declared.Row.{Row}
 use Rattle.euclid.specs.declared.Rows.{Rows}
@@ -66,7 +65,7 @@ first a b d s = record {
 }
 
 module _ {p : ℕ} where
-  -- a bound on the terms is one on the size
+  -- the monic multiple of the remainder, with the same multiple of the cofactor
   pub monic-row : {d s c : ℕ} {r f : Row} → ReducedRow p d r → MonicMultipleOf p (r .remainder) s (f .remainder) c
       → Represents p (f .cofactor) (constant (residue p c) · poly p (r .cofactor)) → MonicRow p d s r f
   monic-row {c = c} h m k = record {
@@ -93,7 +92,7 @@ module _ (p : ℕ) (a b : List ℕ) (d s : ℕ) where
   pub formed-first : 1 < p → 0 < d → Reduced p 33 a → Reduced p 33 b → Below d (poly p a) → Monic d (poly p b) → Size a s → Formed p d (first a b d s)
   formed-first l pos ha hb h m z = record {
     former = record { remainder = hb; cofactor = (zeros p (omega arith)) .reduced; small = rw ((zeros p (omega arith)) .is) (below-𝟎 d) };
-    latter = record { remainder = ha; cofactor = (one p l) .reduced; small = below-up pos (below-unit p 32) };
+    latter = record { remainder = ha; cofactor = (unit p l) .reduced; small = below-up pos (below-unit p 32) };
     monic = m;
     limit = le-refl d;
     size = z;
@@ -104,6 +103,6 @@ module _ (p : ℕ) (a b : List ℕ) (d s : ℕ) where
   combined-first l = record {
     former = rw ((zeros p (omega arith)) .is, zero-mul (PolyRing (Residues p)) (poly p a))
         (congruent-sym (PolyRing (Residues p)) (congruent-zero (PolyRing (Residues p)) (divides-refl (PolyRing (Residues p)) (poly p b))));
-    latter = congruent-equal (PolyRing (Residues p)) (ap (λ u. u · poly p a) ((one p l) .is) ∙ one-mul (PolyRing (Residues p)) (poly p a));
+    latter = congruent-equal (PolyRing (Residues p)) (ap (λ u. u · poly p a) ((unit p l) .is) ∙ one-mul (PolyRing (Residues p)) (poly p a));
     common = λ g h k. (k, h);
   }

@@ -26,7 +26,7 @@ pub fn bar(f: [u16; 33], d: usize, p: u16) -> [u16; 33]
     modular::sum(zero, f, p)
 }
 
-// The element e of the bar of f is used, if it is known.
+// f cut in two, unless its bar has no splitting element. The element e of the bar is used, if it is known.
 pub fn cut_in_two(f: [u16; 33], d: usize, e: Element, p: u16) -> Cut
     requires { ⌜ Monics p f d × Known p d (poly p f) e ⌝ }
     ensures { λ r. ⌜ CutOf p f d (r .cut) (r .first) (r .degree) (r .second) (r .rest) ⌝ }

@@ -10,7 +10,7 @@ use Rattle.algebra.specs.Ring.{CommRing}
 use Rattle.algebra.specs.Divisibility.{_∣_, Coprime, divides-trans, divides-add, divides-mul}
 use Rattle.algebra.specs.Residues.{Residues}
 use Rattle.algebra.specs.Polynomials.{PolyRing, 𝟏}
-use Rattle.algebra.specs.Congruence.{Congruent, congruent-equal, congruent-sym, congruent-trans, congruent-mul, divides-congruent}
+use Rattle.algebra.specs.Congruence.{congruent-equal, congruent-sym, congruent-trans, congruent-mul, divides-congruent}
 use Rattle.algebra.specs.Degree.{Monic, monic-one, monic-zero}
 use Rattle.algebra.specs.Fields.{residue-nontrivial}
 use Rattle.algebra.specs.CoefficientLists.{ℤ[x]/, poly, Reduced}
@@ -37,14 +37,12 @@ module _ {p : ℕ} {a b : List ℕ} {i j : ℕ} (C : CoprimePair p a i b j) {r g
   𝓑 = PolyRing (Residues p)
 
   -- g divides b and r, so it divides a
-  divides-modulo : Congruent 𝓑 (poly p b) (poly p r) (poly p a) → _∣_ 𝓑 (poly p g) (poly p a)
-  divides-modulo h = divides-congruent 𝓑 (divides-trans 𝓑 (hg .right) (congruent-sym 𝓑 h)) (hg .left)
+  divides-first : _∣_ 𝓑 (poly p g) (poly p a)
+  divides-first = divides-congruent 𝓑 (divides-trans 𝓑 (hg .right) (congruent-sym 𝓑 (hr .congruent))) (hg .left)
 
   -- what divides a and b divides 1
   divides-one : _∣_ 𝓑 (poly p g) 𝟏
-  divides-one =
-      let dividesA : _∣_ 𝓑 (poly p g) (poly p a) = divides-modulo (hr .congruent) in
-      rw (← C .coprime .law) (divides-add 𝓑 (divides-mul 𝓑 (C .coprime .u) dividesA) (divides-mul 𝓑 (C .coprime .v) (hg .right)))
+  divides-one = rw (← C .coprime .law) (divides-add 𝓑 (divides-mul 𝓑 (C .coprime .u) divides-first) (divides-mul 𝓑 (C .coprime .v) (hg .right)))
 
   one : poly p g ≡ 𝟏
   one =

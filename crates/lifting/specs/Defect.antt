@@ -2,19 +2,17 @@
 -- Proves that the entries of f − a·b over p are h. Assumes nothing.
 use mathlib.Core.Path.{_≡_, sym, _∙_, ap, ap₂}
 use mathlib.Core.List.{List, map}
-use mathlib.Core.Logic.{⊎-elim}
 use Prim.Native.Nat.{ℕ, _≤_, _<_, _/_, _+_ as _+ℕ_, _*_ as _*ℕ_}
-use native.Mathlib.Nat.{mul-le-mul-left, zero-div, mod-add-div, mod-eq-of-lt}
+use native.Mathlib.Nat.{zero-div, div-lt-iff-lt-mul, mod-eq-of-lt}
 use native.Mathlib.Omega.{arith}
 use lib.ListN.{length, getD, length-map}
-use Rattle.algebra.specs.Numbers.{lt-or-le}
 use Rattle.algebra.specs.Ring.{CommRing, linear1}
 use Rattle.algebra.specs.Identities.{con, _⊕_, _⊖_, _⊗_, _≈_, solve}
 use Rattle.algebra.specs.Residues.{residue, Residues, residue-one, same-remainder}
 use Rattle.algebra.specs.Polynomials.{PolyRing, _+_, _·_, -_, 𝟏, constant}
 use Rattle.algebra.specs.Degree.{Below, Monic, monic-mul}
 use Rattle.algebra.specs.Homomorphisms.{below-map}
-use Rattle.algebra.specs.Fields.{Prime}
+use Rattle.algebra.specs.Fields.{Prime, prime-pos}
 use Rattle.algebra.specs.CoefficientLists.{ℤ[x]/, poly, Reduced, coef-poly}
 use Rattle.algebra.specs.ListShapes.{getD-map}
 use Rattle.factorisation.specs.Kernel.{kernel-sub}
@@ -25,9 +23,6 @@ use Rattle.theorems.specs.Reductions.{coefficients, barred, bar-poly}
 use Rattle.theorems.specs.ListExtension.{extension, π-is, part-list}
 use Rattle.modular.specs.Coefficients.{Represents}
 use Rattle.modular.specs.Arrays.{below-modulo}
-
-quotient-low : (c p : ℕ) → c < p *ℕ p → c / p < p
-quotient-low c p l = ⊎-elim (λ u. u) (λ u. absurd (omega (arith, mod-add-div c p, mul-le-mul-left p u))) (lt-or-le (c / p) p)
 
 -- f is monic modulo p², and modulo p it is a·b
 pub record Factors (p : ℕ) (f a : List ℕ) (i : ℕ) (b : List ℕ) (j : ℕ) : Type 0 where
@@ -50,9 +45,11 @@ module _ {p : ℕ} (large : 1 < p) where
   digit : {a : List ℕ} → Reduced p 33 a → (k c : ℕ) → c < p → residue p (getD a k 0) ≡ residue p c → getD a k 0 ≡ c
   digit {a} r k c l e = sym (mod-eq-of-lt (r .low k)) ∙ same-remainder p (omega arith) (getD a k 0) c e ∙ mod-eq-of-lt l
 
-  pub digits-monic : {a : List ℕ} {i : ℕ} → Reduced p 33 a → Monic i (poly p a) → Monic i (poly (p *ℕ p) a)
+  digits-monic : {a : List ℕ} {i : ℕ} → Reduced p 33 a → Monic i (poly p a) → Monic i (poly (p *ℕ p) a)
   digits-monic {a} {i} r m = record {
-    leading = coef-poly (p *ℕ p) a i ∙ ap (residue (p *ℕ p)) (digit r i 1 large (sym (coef-poly p a i) ∙ m .leading ∙ sym (residue-one p))) ∙ residue-one (p *ℕ p);
+    leading = coef-poly (p *ℕ p) a i
+        ∙ ap (residue (p *ℕ p)) (digit r i 1 large (sym (coef-poly p a i) ∙ m .leading ∙ sym (residue-one p)))
+        ∙ residue-one (p *ℕ p);
     below = below-modulo (p *ℕ p) r (m .below);
   }
 
@@ -91,7 +88,8 @@ module _ {p : ℕ} {f a b : List ℕ} {i j : ℕ} (F : Factors p f a i b j) wher
     defect-is = record {
       reduced = record {
         len = ap length hh ∙ length-map e (λ v. v / p) ∙ he .reduced .len;
-        low = λ k. rw (ap (λ l. getD l k 0) hh ∙ getD-map (λ v. v / p) (zero-div p) e k) (quotient-low (getD e k 0) p (he .reduced .low k));
+        low = λ k. rw (ap (λ l. getD l k 0) hh ∙ getD-map (λ v. v / p) (zero-div p) e k)
+            (div-lt-iff-lt-mul (prime-pos (F .prime)) .1 (he .reduced .low k));
       };
       small = rw (← bar-poly p large h, ← part-is)
           (below-map ((coefficients p large) .hom)

@@ -45,7 +45,10 @@ module _ {p : ℕ} (large : 1 < p) where
 
   raised-bar : (a s A : List ℕ) → Raised a s A → poly p A ≡ poly p a
   raised-bar a s A r =
-      sym (bar-poly p large A) ∙ ap (barred p large) (raised-is a s A r) ∙ bar-add-π (extension p large) (poly (p *ℕ p) a) (poly (p *ℕ p) s) ∙ bar-poly p large a
+      sym (bar-poly p large A)
+      ∙ ap (barred p large) (raised-is a s A r)
+      ∙ bar-add-π (extension p large) (poly (p *ℕ p) a) (poly (p *ℕ p) s)
+      ∙ bar-poly p large a
 
   raised-monic : (a s A : List ℕ) {i : ℕ} → Raised a s A → Monic i (poly (p *ℕ p) a) → Below i (poly (p *ℕ p) s) → Monic i (poly (p *ℕ p) A)
   raised-monic a s A r m l =

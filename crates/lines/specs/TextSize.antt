@@ -33,7 +33,6 @@ use Rattle.specification.specs.Promises.{GoodSheet, sheetLimit}
 use Rattle.algebra.specs.Tests.{left, right}
 use Rattle.factorisation.specs.Members.{All, all-cons, all-tail, all-append}
 use Rattle.factorisation.specs.Sums.{total as sum, total-one, member-le}
-use Rattle.theorems.specs.Factors.{degrees}
 use Rattle.theorems.specs.GoodSheets.{taken-passes}
 use Rattle.theorems.specs.AnswerLayout.{sheetParts}
 use Rattle.theorems.specs.AnswerSize.{Byte}

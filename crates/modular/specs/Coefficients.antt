@@ -2,7 +2,8 @@
 -- Proves what the arrays of 0 and 1 represent, and that n − c stands for −c. Assumes nothing.
 use mathlib.Core.Path.{_≡_, _∙_, ap, ap₂}
 use mathlib.Core.List.{List, _∷_}
-use Prim.Native.Nat.{ℕ, _≤_, _<_, _-_}
+use Prim.Native.Nat.{ℕ, zero, suc, _≤_, _<_, _-_}
+use native.Mathlib.Omega.{arith}
 use lib.ListN.{length, getD, replicate, length-replicate}
 use Rattle.algebra.specs.Identities.{con, _⊕_, _⊗_, _≈_, solve}
 use Rattle.algebra.specs.Residues.{residue, Residues, residue-zero, residue-one, residue-neg}
@@ -44,6 +45,14 @@ module _ (n : ℕ) where
   poly-unit k =
       poly-cons n 1 (replicate k 0) ∙ ap₂ (λ c f. c + x · f) constant-residue-one (poly-zeros n k)
       ∙ solve (PolyRing (Residues n)) 1 (λ x. con 1 ⊕ x ⊗ con 0 ≈ con 1) tt x
+
+  -- the array of 1
+  pub unit : 1 < n → Represents n (1 ∷ replicate 32 0) 𝟏
+  unit large = record { reduced = record { len = ap suc (length-replicate {A = ℕ} 32 0); low = low }; is = poly-unit 32 }
+    where
+      low : (k : ℕ) → getD (1 ∷ replicate 32 0) k 0 < n
+      low zero = large
+      low (suc k) = rw (getD-zeros 32 k) (omega arith)
 
   pub below-unit : (k : ℕ) → Below 1 (poly n (1 ∷ replicate k 0))
   below-unit k = rw (poly-unit k) (monic-one .below)

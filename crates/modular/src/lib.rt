@@ -1,5 +1,5 @@
-// Arithmetic modulo n on arrays of 33 coefficients, constant first: n is a prime or its square. Everything is built of one loop,
-// a + c·x^k·b. The contracts speak of polynomials over ℤ/n; all is public for the crates above, and no entry point of the library.
+// Arithmetic modulo n on arrays of 33 coefficients, constant first: n is a prime or its square. Sum, difference, product and division
+// are built of one loop, a + c·x^k·b. The contracts speak of polynomials over ℤ/n; all is public for the crates above, and no entry point of the library.
 ghost use mathlib.Core.Path.{_≡_};
 ghost use mathlib.Core.List.{map};
 ghost use Prim.Native.Nat.{_<_, _≤_, _/_, _%_, _+_ as _+ℕ_, _*_ as _*ℕ_};
@@ -19,7 +19,7 @@ pub struct Divided {
     pub remainder: [u16; 33],
 }
 
-// s modulo n: the one place where a number is divided and made narrow.
+// s modulo n, by a division.
 pub fn reduce(n: u16, s: u64) -> u16
     requires { ⌜ 0 < n ⌝ }
     ensures { λ r. ⌜ (r ≡ s % n) × (r < n) ⌝ }

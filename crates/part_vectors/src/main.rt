@@ -5,7 +5,6 @@ use cases::print_cases;
 use cases::record;
 use cases::small;
 use libc::STDIN_FILENO;
-use parts::PartsAnswer;
 use parts::parts_of;
 use pieces::Parts;
 use verdicts::Factor;

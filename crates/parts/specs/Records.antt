@@ -1,13 +1,13 @@
--- The struct `PartsAnswer` as the specification's result, and what number 0 says of a record: its polynomial is what `split` asks for.
--- Proves that the parts of the array are those of the record. Assumes nothing.
-use mathlib.Core.Path.{_≡_, refl, sym, _∙_, ap}
+-- The struct `PartsAnswer` as the specification's result, and what `parts_of` promises of it: `PartsAnswered`.
+-- Proves that a record with number 0 holds what `split` asks for, and the promise where there are parts and where the record is refused. Assumes nothing.
+use mathlib.Core.Path.{_≡_, refl, sym, _∙_, ap, ap₂, subst}
 use mathlib.Core.Bool.{Bool, true, false, cond}
 use mathlib.Core.Logic.{⊎-elim}
-use mathlib.Core.List.{[], map}
-use Prim.Native.Nat.{ℕ, suc, _-_, _<_}
+use mathlib.Core.List.{map}
+use Prim.Native.Nat.{ℕ, suc, _-_, _≤_, _<_}
 use native.Mathlib.Omega.{arith}
 use lib.Dec.{eqb}
-use lib.ListN.{length}
+use lib.ListN.{length, take}
 use lib.Seq.{getD-take, length-take-le, ext-getD}
 use borrow.Author.Tests.{eqb-true, eqb-false, ne-eqb}
 use Rattle.specification.specs.Polynomials.{leading}
@@ -16,12 +16,14 @@ use Rattle.specification.specs.Parts.{partsOf}
 use Rattle.specification.specs.RecordParts.{PartsResult, partsNumber, partsResult}
 use Rattle.algebra.specs.Numbers.{lt-or-le}
 use Rattle.algebra.specs.CoefficientLists.{Reduced}
+use Rattle.factorisation.specs.Members.{All}
 use Rattle.modular.specs.Coefficients.{Size}
 use Rattle.polynomial.specs.Accepted.{proper-prime, proper-reduced}
 use Rattle.polynomial.specs.RecordLaws.{getD-trim, length-trim}
 use Rattle.polynomial.specs.DivisionResult.{monic-size, monic-array}
 use Rattle.factors.specs.Cut.{Monics}
 use Rattle.verdicts.specs.Given.{listed}
+use Rattle.verdicts.specs.SplitByItems.{PartHeld}
 use Rattle.verdicts.specs.Views.{asPart}
 use Rattle.pieces.specs.declared.Parts.{Parts}
 use Rattle.pieces.specs.Views.{held}
@@ -30,6 +32,12 @@ use Rattle.parts.specs.declared.PartsAnswer.{PartsAnswer}
 
 abbrev pub asPartsResult : PartsAnswer → PartsResult
 asPartsResult a = record { number = a .number; place = a .place; parts = map asPart (held (a .parts)) }
+
+-- the parts of the specification, 32 at most, with arrays of the degrees that stand beside them
+pub record PartsAnswered (a : PolyRecord) (r : PartsAnswer) : Type 0 where
+  pub is : asPartsResult r ≡ partsResult a
+  pub few : r .parts .count ≤ 32
+  pub arrays : All (PartHeld (a .prime)) (held (r .parts))
 
 -- a proper record of a monic polynomial of degree 1 or more
 pub record Taken (a : PolyRecord) : Type 0 where
@@ -73,13 +81,24 @@ module _ (a : PolyRecord) (t : Taken a) {s : ℕ} (z : Size (a .coefficients) s)
       long : length (listed (s - 1) (a .coefficients)) ≡ suc (s - 1)
       long = length-take-le (suc (s - 1)) (a .coefficients) (omega (arith, reduced .len, z .limit, positive))
 
-  pub parts-are : {r : Parts} → PartsOf (a .prime) (a .coefficients) (s - 1) r → map asPart (held r) ≡ partsOf (a .prime) (polynomial a)
+  parts-are : {r : Parts} → PartsOf (a .prime) (a .coefficients) (s - 1) r → map asPart (held r) ≡ partsOf (a .prime) (polynomial a)
   parts-are h = h .is ∙ ap (partsOf (a .prime)) list-is
 
-pub result-taken : (a : PolyRecord) → partsNumber a ≡ 0 → partsResult a ≡ record { number = 0; place = 0; parts = partsOf (a .prime) (polynomial a) }
-unfolding partsResult
-result-taken a e = rw e
+module _ (a : PolyRecord) {r : Parts} where
+  pub parts-answered : partsNumber a ≡ 0 → {s : ℕ} → Size (a .coefficients) s → PartsOf (a .prime) (a .coefficients) (s - 1) r
+      → PartsAnswered a (record { number = 0; place = 0; parts = r })
+  unfolding partsResult
+  parts-answered e z h = record {
+    is = rw e (ap (λ l. record { number = 0; place = 0; parts = l }) (parts-are a (number-zero a e) z h));
+    few = h .few;
+    arrays = h .arrays;
+  }
 
-pub result-refused : (a : PolyRecord) → (partsNumber a ≡ 0 → ⊥) → partsResult a ≡ record { number = partsNumber a; place = 0; parts = [] }
-unfolding partsResult
-result-refused a ne = rw (ne-eqb (partsNumber a) 0 ne)
+  pub parts-refused : {k : ℕ} → k ≡ partsNumber a → (k ≡ 0 → ⊥) → r .count ≡ 0 → PartsAnswered a (record { number = k; place = 0; parts = r })
+  unfolding partsResult
+  parts-refused {k} e ne none = record {
+    is = rw (ne-eqb (partsNumber a) 0 (λ z. ne (e ∙ z)))
+        (ap₂ (λ (j : ℕ) l. record { number = j; place = 0; parts = l }) e (ap (λ n. map asPart (take n (r .parts))) none));
+    few = omega (arith, none);
+    arrays = subst (λ n. All (PartHeld (a .prime)) (take n (r .parts))) (sym none) (λ x i. elim i [ ]);
+  }

@@ -1,12 +1,12 @@
 // All parts of a monic f modulo p², in the order of item 3: a stack of pieces, each cut in two or found to be a part.
-// `parts_of` takes any record; the rest is public for the crates above.
+// `parts_of` takes any record. All is public for the crates above, and no entry point of the library.
 ghost use mathlib.Core.Path.{_≡_};
 ghost use mathlib.Core.Bool.{false};
 ghost use Rattle.specification.specs.RecordParts as specification;
 ghost use Rattle.polynomial.specs.Views.{asRecord};
 ghost use Rattle.factors.specs.Cut.{Monics};
 ghost use Rattle.parts.specs.State.{PartsOf};
-ghost use Rattle.parts.specs.Records.{asPartsResult};
+ghost use Rattle.parts.specs.Records.{PartsAnswered};
 use factors::Cut;
 use factors::bar;
 use factors::cut_in_two;
@@ -133,7 +133,7 @@ fn parts_number(a: Poly) -> u8
 
 // The parts of a record's polynomial.
 pub fn parts_of(a: Poly) -> PartsAnswer
-    ensures { λ r. ⌜ asPartsResult r ≡ specification.partsResult (asRecord a) ⌝ }
+    ensures { λ r. ⌜ PartsAnswered (asRecord a) r ⌝ }
 {
     let number = parts_number(a);
     if number == 0 {

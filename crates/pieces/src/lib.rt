@@ -8,9 +8,7 @@ ghost use Rattle.verdicts.specs.Given.{listed};
 ghost use Rattle.pieces.specs.Order.{Answers};
 ghost use Rattle.pieces.specs.Insertion.{Inserted};
 ghost use Rattle.pieces.specs.Views.{held, PartBefore};
-use verdicts::Factor;
 use verdicts::Part;
-use verdicts::Verdict;
 
 // The first `count` parts count.
 pub struct Parts {

@@ -40,12 +40,13 @@ use Rattle.algebra.specs.Residues.{Residues, residue-zero}
 use Rattle.algebra.specs.Polynomials as polynomials
 use Rattle.algebra.specs.Polynomials.{PolyRing, _+_, _·_, -_, 𝟎, 𝟏, x, constant-zero}
 use Rattle.algebra.specs.Degree.{Below, below-zero}
-use Rattle.algebra.specs.Fields.{taken-prime}
+use Rattle.algebra.specs.TakenPrimes.{is-prime}
 use Rattle.algebra.specs.Numbers.{square-large}
 use Rattle.algebra.specs.Tests.{passes}
 use Rattle.algebra.specs.ListLaws.{all-from}
 use Rattle.algebra.specs.CoefficientLists.{ℤ[x]/, poly, poly-nil, poly-one, poly-cons}
 use Rattle.polynomial.specs.RecordLaws.{poly-pad, pad-is, length-pad, getD-pad}
+use Rattle.polynomial.specs.Accepted.{proper-prime}
 use Rattle.polynomial.specs.Results.{sum-list, difference-list, product-list}
 use Rattle.polynomial.specs.DivisionResult.{quotient-list, remainder-list, division-sound, remainder-small, division-only}
 
@@ -128,11 +129,10 @@ module _ (a : PolyRecord) (good : proper a ≡ true) where
   p = a .prime
 
   is-taken : taken p ≡ true
-  unfolding proper
-  is-taken = and-eq-true-iff (taken p) _ .0 (and-eq-true-iff (taken p && _) _ .0 good .0) .0
+  is-taken = proper-prime a good
 
   large : 1 < p * p
-  large = square-large p (taken-prime p (subst T (sym is-taken) tt) .large)
+  large = square-large p (is-prime is-taken .large)
 
   one-is : (oneOf p) .value ≡ recordOf p (1 ∷ [])
   unfolding constant primeNumber

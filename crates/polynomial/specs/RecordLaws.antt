@@ -19,15 +19,10 @@ use Rattle.specification.specs.Polynomials.{isZero, leading}
 use Rattle.specification.specs.Records.{trim, pad}
 use Rattle.loops.specs.Places.{every-true, every-false}
 use Rattle.algebra.specs.Numbers.{lt-or-le}
-use Rattle.algebra.specs.Residues.{residue}
-use Rattle.algebra.specs.Polynomials.{poly-ext}
-use Rattle.algebra.specs.CoefficientLists.{ℤ[x]/, poly, coef-poly, same-list}
+use Rattle.algebra.specs.CoefficientLists.{ℤ[x]/, poly, same-list}
 use Rattle.algebra.specs.ListShapes.{getD-zeros}
 use Rattle.modular.specs.Coefficients.{Represents, Size}
-
--- lists with the same coefficients are the same polynomial
-pub poly-same : (n : ℕ) (f g : List ℕ) → ((k : ℕ) → getD f k 0 ≡ getD g k 0) → poly n f ≡ poly n g
-poly-same n f g h = poly-ext (λ k. coef-poly n f k ∙ ap (residue n) (h k) ∙ sym (coef-poly n g k))
+use Rattle.modular.specs.Arrays.{same-poly}
 
 -- ---- trimming
 
@@ -61,7 +56,7 @@ getD-trim (a ∷ f) k = at (isZero (a ∷ f)) refl (getD-trim f) k
     at false e rest (suc k) = rest k
 
 pub poly-trim : (n : ℕ) (f : List ℕ) → poly n (trim f) ≡ poly n f
-poly-trim n f = poly-same n (trim f) f (getD-trim f)
+poly-trim n f = same-poly n (trim f) f (getD-trim f)
 
 pub length-trim-le : (f : List ℕ) → length (trim f) ≤ length f
 unfolding trim
@@ -112,7 +107,7 @@ getD-pad f h k =
     (lt-or-le k 33)
 
 pub poly-pad : (n : ℕ) (f : List ℕ) → length f ≤ 33 → poly n (pad f) ≡ poly n f
-poly-pad n f h = poly-same n (pad f) f (getD-pad f h)
+poly-pad n f h = same-poly n (pad f) f (getD-pad f h)
 
 -- ---- lists that fit an array
 

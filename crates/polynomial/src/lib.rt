@@ -28,7 +28,7 @@ pub struct Division {
     pub remainder: Poly,
 }
 
-// The taken primes: no other place of the code knows them.
+// The taken primes: but for the table of inverses no other place of the code knows them.
 pub fn taken(prime: u8) -> bool
     ensures { λ r. ⌜ r ≡ limits.taken prime ⌝ }
 {

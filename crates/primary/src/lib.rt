@@ -1,11 +1,8 @@
 // The part that a monic f modulo p² is, where its bar has no splitting element: its base, its exponent, its verdict and its factors.
 // All is public for the crates above, and no entry point of the library.
 ghost use Rattle.primary.specs.PartFound.{UnsplitPiece, PartFound};
-use bases::Base;
 use bases::base_of_power;
-use verdicts::Factor;
 use verdicts::Part;
-use verdicts::Verdict;
 use verdicts::split_part;
 
 // f is of degree d, and q is its bar.

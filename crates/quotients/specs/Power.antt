@@ -1,41 +1,30 @@
 -- Remainders of powers: a loop that multiplies by a in each turn has the remainder of a^i after i turns.
 -- Proves that such a loop begins so and goes on so. Assumes nothing.
-use mathlib.Core.Path.{refl, sym, _∙_, ap}
+use mathlib.Core.Path.{refl, sym, _∙_}
 use mathlib.Core.List.{List, _∷_}
-use Prim.Native.Nat.{ℕ, zero, suc, _<_, _+_ as _+ℕ_}
+use Prim.Native.Nat.{ℕ, _<_, _+_ as _+ℕ_}
 use native.Mathlib.Numerals.{add-one}
-use native.Mathlib.Omega.{arith}
-use lib.ListN.{getD, replicate, length-replicate}
+use lib.ListN.{replicate}
 use Rattle.algebra.specs.Divisibility.{pow, pow-zero, pow-suc}
 use Rattle.algebra.specs.Residues.{Residues}
-use Rattle.algebra.specs.Polynomials.{PolyRing, _·_, 𝟏}
+use Rattle.algebra.specs.Polynomials.{PolyRing, _·_}
 use Rattle.algebra.specs.Degree.{below-up}
 use Rattle.algebra.specs.CoefficientLists.{ℤ[x]/, poly}
-use Rattle.algebra.specs.ListShapes.{getD-zeros}
 use Rattle.algebra.specs.Congruence.{congruent-equal, congruent-mul}
-use Rattle.modular.specs.Coefficients.{Represents, poly-unit, below-unit}
+use Rattle.modular.specs.Coefficients.{unit, below-unit}
 use Rattle.quotients.specs.Remainder.{Remainder, remainder-congruent}
 
-module _ (n : ℕ) where
-  -- the array of 1
-  pub one : 1 < n → Represents n (1 ∷ replicate 32 0) 𝟏
-  one l = record { reduced = record { len = ap suc (length-replicate {A = ℕ} 32 0); low = low }; is = poly-unit n 32 }
-    where
-      low : (k : ℕ) → getD (1 ∷ replicate 32 0) k 0 < n
-      low zero = l
-      low (suc k) = rw (getD-zeros 32 k) (omega arith)
+module _ (n : ℕ) (q : List ℕ) {d : ℕ} (a : ℤ[x]/ n) where
+  pub power-none : 1 < n → 0 < d → Remainder n q d (1 ∷ replicate 32 0) (pow (PolyRing (Residues n)) a 0)
+  power-none l pos = record {
+    reduced = (unit n l) .reduced;
+    small = below-up pos (below-unit n 32);
+    congruent = congruent-equal (PolyRing (Residues n)) ((unit n l) .is ∙ sym (pow-zero (PolyRing (Residues n)) a));
+  }
 
-  module _ (q : List ℕ) {d : ℕ} (a : ℤ[x]/ n) where
-    pub power-none : 1 < n → 0 < d → Remainder n q d (1 ∷ replicate 32 0) (pow (PolyRing (Residues n)) a 0)
-    power-none l pos = record {
-      reduced = (one l) .reduced;
-      small = below-up pos (below-unit n 32);
-      congruent = congruent-equal (PolyRing (Residues n)) ((one l) .is ∙ sym (pow-zero (PolyRing (Residues n)) a));
-    }
-
-    pub power-more : (i : ℕ) {r v : List ℕ} → Remainder n q d r (pow (PolyRing (Residues n)) a i) → Remainder n q d v (a · poly n r)
-        → Remainder n q d v (pow (PolyRing (Residues n)) a (i +ℕ 1))
-    power-more i hr hv =
-        rw (add-one, pow-suc (PolyRing (Residues n)) a i)
-        (remainder-congruent n hv
-        (congruent-mul (PolyRing (Residues n)) (congruent-equal (PolyRing (Residues n)) refl) (hr .congruent)))
+  pub power-more : (i : ℕ) {r v : List ℕ} → Remainder n q d r (pow (PolyRing (Residues n)) a i) → Remainder n q d v (a · poly n r)
+      → Remainder n q d v (pow (PolyRing (Residues n)) a (i +ℕ 1))
+  power-more i hr hv =
+      rw (add-one, pow-suc (PolyRing (Residues n)) a i)
+      (remainder-congruent n hv
+      (congruent-mul (PolyRing (Residues n)) (congruent-equal (PolyRing (Residues n)) refl) (hr .congruent)))

@@ -5,9 +5,9 @@ use mathlib.Core.Path.{_≡_, refl, sym, _∙_, ap}
 use mathlib.Core.Bool.{true, false, false≢true}
 use mathlib.Core.List.{List, [], _∷_, _++_, map, flatMap, append-assoc}
 use mathlib.Core.List.{List·Memᴰ·head as here}
-use Prim.Native.Nat.{ℕ, zero, suc, _≤_, _<_, _+_ as _+ℕ_, _*_ as _*ℕ_}
+use Prim.Native.Nat.{ℕ, _≤_, _<_, _+_ as _+ℕ_, _*_ as _*ℕ_}
 use native.Mathlib.Omega.{arith}
-use lib.ListN.{length, getD, drop, replicate, length-replicate}
+use lib.ListN.{length, getD, drop, replicate}
 use Rattle.specification.specs.Limits.{degreeLimit}
 use Rattle.specification.specs.Answers.{factorBytes}
 use Rattle.algebra.specs.Ring.{CommRing, mul-one}
@@ -16,8 +16,7 @@ use Rattle.algebra.specs.Residues.{Residues}
 use Rattle.algebra.specs.Polynomials.{PolyRing, _·_, 𝟏}
 use Rattle.algebra.specs.Degree.{monic-one}
 use Rattle.algebra.specs.CoefficientLists.{ℤ[x]/, poly}
-use Rattle.algebra.specs.ListShapes.{getD-zeros}
-use Rattle.modular.specs.Coefficients.{poly-unit}
+use Rattle.modular.specs.Coefficients.{unit, poly-unit}
 use Rattle.factorisation.specs.Members.{All, all-tail}
 use Rattle.factorisation.specs.Sums.{total}
 use Rattle.theorems.specs.Factors.{degrees, powered}
@@ -85,15 +84,7 @@ module _ (n : ℕ) where
 
   -- the array of 1
   pub one-array : 1 < n → MonicArray n 0 (1 ∷ replicate 32 0)
-  one-array large = record {
-    fits = omega arith;
-    reduced = record { len = ap suc (length-replicate {A = ℕ} 32 0); low = low };
-    monic = rw (poly-unit n 32) monic-one;
-  }
-    where
-      low : (k : ℕ) → getD (1 ∷ replicate 32 0) k 0 < n
-      low zero = large
-      low (suc k) = rw (getD-zeros 32 k) (omega arith)
+  one-array large = record { fits = omega arith; reduced = unit n large .reduced; monic = rw (unit n large .is) monic-one }
 
   module _ (bytes : List ℕ) where
     -- the items ys are left of xs

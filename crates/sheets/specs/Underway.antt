@@ -92,6 +92,7 @@ module _ (part : List ℕ) (p d : ℕ) where
                     reach = omega (arith, l);
                     held = held-set (w .held) i v low;
                     same = value-due ∙ m
-                        ∙ ap₂ (λ (t : Poly) (k : ℕ). readPart 4 (command (sheetOf p t) k) part (at + 2 + 1)) (sym (poly-set (w .held) i v low)) (sym (add-one i))
+                        ∙ ap₂ (λ (t : Poly) (k : ℕ). readPart 4 (command (sheetOf p t) k) part (at + 2 + 1))
+                        (sym (poly-set (w .held) i v low)) (sym (add-one i))
                         ∙ ap (readPart 4 (command (sheetOf p (polyIn d (set coefs i v))) (i + 1)) part) (omega arith);
                   }

@@ -11,9 +11,7 @@ ghost use Rattle.verdicts.specs.Given.{listed};
 ghost use Rattle.pieces.specs.Order.{Answers};
 ghost use Rattle.writing.specs.Area.{Wrote};
 ghost use Rattle.splitter.specs.Outcomes.{IsSuccess, IsRefused, Called};
-use reading::Candidate;
 use reading::find_candidate;
-use sheets::SheetRead;
 use sheets::read_sheet;
 use writing::write_sheet;
 

@@ -2,29 +2,20 @@
 -- Proves that the loop begins so, goes on so and ends so. Assumes nothing.
 use mathlib.Core.Path.{sym, _∙_, ap, subst}
 use mathlib.Core.List.{List, _∷_}
-use Prim.Native.Nat.{ℕ, zero, suc, _≤_, _<_, _+_ as _+ℕ_, _*_ as _*ℕ_}
+use Prim.Native.Nat.{ℕ, _≤_, _<_, _+_ as _+ℕ_, _*_ as _*ℕ_}
 use native.Mathlib.Nat.{le-antisymm}
 use native.Mathlib.Numerals.{add-one}
-use native.Mathlib.Omega.{arith}
-use lib.ListN.{getD, replicate, length-replicate}
+use lib.ListN.{replicate}
 use Rattle.algebra.specs.Divisibility.{pow, pow-zero, pow-suc}
 use Rattle.algebra.specs.Residues.{Residues}
 use Rattle.algebra.specs.Polynomials.{PolyRing, _·_}
 use Rattle.algebra.specs.Degree.{Below, Monic, monic-pow}
 use Rattle.algebra.specs.CoefficientLists.{ℤ[x]/, poly}
-use Rattle.algebra.specs.ListShapes.{getD-zeros}
-use Rattle.modular.specs.Coefficients.{Represents, poly-unit}
+use Rattle.modular.specs.Coefficients.{Represents, unit}
 
 module _ (n : ℕ) (a : ℤ[x]/ n) where
   pub power-none : 1 < n → Represents n (1 ∷ replicate 32 0) (pow (PolyRing (Residues n)) a 0)
-  power-none large = record {
-    reduced = record { len = ap suc (length-replicate {A = ℕ} 32 0); low = low };
-    is = poly-unit n 32 ∙ sym (pow-zero (PolyRing (Residues n)) a);
-  }
-    where
-      low : (j : ℕ) → getD (1 ∷ replicate 32 0) j 0 < n
-      low zero = large
-      low (suc j) = rw (getD-zeros 32 j) (omega arith)
+  power-none large = record { reduced = unit n large .reduced; is = unit n large .is ∙ sym (pow-zero (PolyRing (Residues n)) a) }
 
   pub power-more : (i : ℕ) {r v : List ℕ} → Represents n r (pow (PolyRing (Residues n)) a i) → Represents n v (poly n r · a)
       → Represents n v (pow (PolyRing (Residues n)) a (i +ℕ 1))

@@ -16,10 +16,22 @@ parts-number-spec =
     (λ c κs. search needs)  -- leading-requires
     (λ c κs. search needs)  -- size-requires
     (λ c.
-    rw (← c .before .before .before .before .before .proper .ensures, c .before .before .before .before .if1 .taken, ← c .before .before .before .leading .ensures, c .before .before .if2 .taken, length-trim (c .before .size .ensures))
+    rw (
+      ← c .before .before .before .before .before .proper .ensures,
+      c .before .before .before .before .if1 .taken,
+      ← c .before .before .before .leading .ensures,
+      c .before .before .if2 .taken,
+      length-trim (c .before .size .ensures),
+    )
     (search cases))  -- returns
     (λ c.
-    rw (← c .before .before .before .before .before .proper .ensures, c .before .before .before .before .if1 .taken, ← c .before .before .before .leading .ensures, c .before .before .if2 .taken, length-trim (c .before .size .ensures))
+    rw (
+      ← c .before .before .before .before .before .proper .ensures,
+      c .before .before .before .before .if1 .taken,
+      ← c .before .before .before .leading .ensures,
+      c .before .before .if2 .taken,
+      length-trim (c .before .size .ensures),
+    )
     (search cases))  -- returns-2
     (λ c. rw (← c .before .before .before .proper .ensures, c .before .before .if1 .taken, ← c .before .leading .ensures) (search cases))  -- returns-3
     (λ c. rw (← c .before .proper .ensures) (search cases)))  -- returns-4

@@ -1,12 +1,9 @@
 -- `parts::parts_of` meets its contract.
 -- Assumes nothing.
-use mathlib.Core.Path.{sym, _∙_, ap, ap₂}
-use mathlib.Core.List.{map}
+use mathlib.Core.Path.{sym, _∙_}
 use native.Mathlib.Omega.{arith}
-use lib.ListN.{take}
 use borrow.Author.Needs.{needs}
-use Rattle.verdicts.specs.Views.{asPart}
-use Rattle.parts.specs.Records.{number-zero, positive, monics, parts-are, result-taken, result-refused}
+use Rattle.parts.specs.Records.{number-zero, positive, monics, parts-answered, parts-refused}
 use Rattle.parts.proofs.parts_of.Statement.{statement}
 use Rattle.parts.proofs.parts_of.Tie as tie
 
@@ -26,10 +23,6 @@ parts-of-spec =
     (c .before .size .ensures))  -- split-requires
     (λ c κs. search needs)  -- no-parts-requires
     (λ c.
-    let zero = sym (c .before .before .before .before .before .parts-number .ensures) ∙ c .before .before .before .before .if1 .taken in
-    ap (λ l. record { number = 0; place = 0; parts = l }) (parts-are _ (number-zero _ zero) (c .before .before .size .ensures) (c .split .ensures))
-    ∙ sym (result-taken _ zero))  -- returns
-    (λ c.
-    let number = c .before .before .parts-number .ensures in
-    ap₂ (λ k n. record { number = k; place = 0; parts = map asPart (take n (c .no-parts .result .parts)) }) number (c .no-parts .ensures)
-    ∙ sym (result-refused _ (λ e. c .before .if1 .left (number ∙ e)))))  -- returns-2
+    parts-answered _ (sym (c .before .before .before .before .before .parts-number .ensures) ∙ c .before .before .before .before .if1 .taken)
+    (c .before .before .size .ensures) (c .split .ensures))  -- returns
+    (λ c. parts-refused _ (c .before .before .parts-number .ensures) (c .before .if1 .left) (c .no-parts .ensures)))  -- returns-2
