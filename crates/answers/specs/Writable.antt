@@ -7,6 +7,7 @@ use Prim.Native.Nat.{ℕ, _≤_, _<_, _*_}
 use native.Mathlib.Nat.{mul-le-mul}
 use native.Mathlib.Omega.{arith}
 use lib.ListN.{length}
+use Rattle.specification.specs.Limits.{answerArea}
 use Rattle.specification.specs.Polynomials.{Poly, degree}
 use Rattle.specification.specs.Parts as parts
 use Rattle.specification.specs.Totals.{copies, members, listOf, total, different, freeDigits}
@@ -74,7 +75,7 @@ module _ {p d : ℕ} {a : Parts} (h : Writable p d a) where
       → (0x01 ∷ p ∷ 0x02 ∷ d ∷ []) ++ partsBytes (held a) ++ endBytes s z r ≡ answerBytes p d (heldParts a)
   answer-written w = let (e, f, g) = counted-totals w in answer-is p d (held a) e f g
 
-  pub answer-room : {area : List ℕ} → 384 ≤ length area → Room area 0 (answerBytes p d (heldParts a))
+  pub answer-room : {area : List ℕ} → answerArea ≤ length area → Room area 0 (answerBytes p d (heldParts a))
   answer-room l = record { fits = omega (arith, h .fits .short); low = h .fits .low }
 
 -- ---- the parts of a good sheet

@@ -4,6 +4,7 @@ ghost use mathlib.Core.Path.{_≡_};
 ghost use mathlib.Core.List.{flatMap};
 ghost use Prim.Native.Nat.{_-_, _*_, _≤_, _<_};
 ghost use lib.ListN.{length};
+ghost use Rattle.specification.specs.Limits.{answerArea};
 ghost use Rattle.specification.specs.Answers.{verdictNumber, factorBytes, partBytes};
 ghost use Rattle.factorisation.specs.Members.{All};
 ghost use Rattle.theorems.specs.AnswerLayout.{answerBytes};
@@ -179,7 +180,7 @@ fn write_end(out: &mut [u8], at: usize, t: Totals) -> usize
 
 // The answer to a sheet of prime p and degree d whose parts these are, from place 0 on.
 pub fn write_answer(out: &mut [u8], p: u8, d: usize, parts: Parts) -> usize
-    requires { ⌜ Writable p d parts × (384 ≤ length (now out)) ⌝ }
+    requires { ⌜ Writable p d parts × (answerArea ≤ length (now out)) ⌝ }
     ensures { λ r. ⌜ Wrote (now (out .entry)) (now (out .exit)) 0 (answerBytes p d (heldParts parts)) r ⌝ }
 {
     let t = count_totals(parts);

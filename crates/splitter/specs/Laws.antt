@@ -6,6 +6,7 @@ use mathlib.Core.List.{List}
 use Prim.Native.Nat.{ℕ, _≤_}
 use lib.ListN.{length, take, drop}
 use lib.Seq.{take-append-seam}
+use Rattle.specification.specs.Limits.{answerArea}
 use Rattle.specification.specs.Sheets.{Sheet, accepted, readSheet}
 use Rattle.specification.specs.Calls as calls
 use Rattle.specification.specs.Calls.{splitCall, readCall, success}
@@ -29,7 +30,7 @@ written-is {o} {r} {old} {new} h = ap (λ (k : ℕ). take k new) (h .count) ∙ 
 
 module _ (sheet : List ℕ) {r : Outcome} {old new : List ℕ} (h : Called (splitCall (length old) sheet) r old new) where
   -- term 3: "The factor list of an accepted sheet cannot be bettered, whatever list is set against it"
-  pub split-longest : 384 ≤ length old → (s : Sheet) → readSheet sheet ≡ accepted s → (r .number ≡ 0) × LongestIn s (written r new)
+  pub split-longest : answerArea ≤ length old → (s : Sheet) → readSheet sheet ≡ accepted s → (r .number ≡ 0) × LongestIn s (written r new)
   split-longest l s e = (
     h .number ∙ ap (λ (o : calls.Outcome). o .number) (split-answered (length old) sheet l e),
     subst (LongestIn s) (first-bytes (splitCall (length old) sheet) old ∙ sym (written-is h)) (term-3-call old sheet s l e),
@@ -52,10 +53,10 @@ module _ (bytes : List ℕ) {r : Outcome} {old new : List ℕ} (h : Called (read
   read-undone z = read-then-split (length old) bytes (written r new) (read-success z)
 
   -- "The reader accepts a byte string exactly when it is the answer to some sheet, and gives back that sheet"
-  pub read-accepted : 384 ≤ length old → r .number ≡ 0 → AnswerTo (written r new) bytes
+  pub read-accepted : answerArea ≤ length old → r .number ≡ 0 → AnswerTo (written r new) bytes
   read-accepted l z = reader-exact (length old) l bytes (written r new) .0 (read-success z)
 
-  pub answers-accepted : 384 ≤ length old → (t : List ℕ) → AnswerTo t bytes → (r .number ≡ 0) × (written r new ≡ t)
+  pub answers-accepted : answerArea ≤ length old → (t : List ℕ) → AnswerTo t bytes → (r .number ≡ 0) × (written r new ≡ t)
   answers-accepted l t a =
       let e = reader-exact (length old) l bytes t .1 a in
       (h .number ∙ ap (λ (o : calls.Outcome). o .number) e, written-is h ∙ ap (λ (o : calls.Outcome). o .bytes) e)

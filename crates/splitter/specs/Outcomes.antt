@@ -56,11 +56,11 @@ called-wrote {old = old} e h w = record {
 
 -- ---- the call that splits a sheet
 
-pub split-short : (area : ℕ) (bytes : List ℕ) → area < 384 → calls.splitCall area bytes ≡ calls.refused 1 0
+pub split-short : (area : ℕ) (bytes : List ℕ) → area < answerArea → calls.splitCall area bytes ≡ calls.refused 1 0
 unfolding calls.splitCall
 split-short area bytes l = rw (lt-ltb area answerArea l)
 
-module _ (area : ℕ) (bytes : List ℕ) (l : 384 ≤ area) where
+module _ (area : ℕ) (bytes : List ℕ) (l : answerArea ≤ area) where
   pub split-refused : {k at : ℕ} → readSheet bytes ≡ fault k at → calls.splitCall area bytes ≡ calls.refused k at
   unfolding calls.splitCall calls.answerTo
   split-refused e = rw (le-ltb area answerArea l, e)

@@ -53,7 +53,7 @@ wrote-first {old} {new} {bytes} {after} w =
 
 -- ---- the call
 
-pub read-short : (area : ℕ) (bytes : List ℕ) → area < 384 → calls.readCall area bytes ≡ calls.refused 1 0
+pub read-short : (area : ℕ) (bytes : List ℕ) → area < answerArea → calls.readCall area bytes ≡ calls.refused 1 0
 unfolding calls.readCall
 read-short area bytes l = rw (lt-ltb area answerArea l)
 
@@ -61,7 +61,7 @@ read-short area bytes l = rw (lt-ltb area answerArea l)
 abbrev sheetFound : Candidate → Sheet
 sheetFound c = sheetOf (c .prime) (listed (c .degree) (c .coefs))
 
-module _ (area : ℕ) (bytes : List ℕ) (l : 384 ≤ area) {c : Candidate} (h : CandidateOf bytes c) where
+module _ (area : ℕ) (bytes : List ℕ) (l : answerArea ≤ area) {c : Candidate} (h : CandidateOf bytes c) where
   no-answer : ((s : Sheet) → GoodSheet s → bytes ≡ answer s → ⊥) → calls.readCall area bytes ≡ calls.refused 9 0
   no-answer f = reader-refuses area l bytes .1 (λ t (s, r, e). f s (read-is-good t s r) e)
 

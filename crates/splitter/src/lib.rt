@@ -3,6 +3,7 @@
 ghost use mathlib.Core.Path.{_≡_};
 ghost use Prim.Native.Nat.{_≤_};
 ghost use lib.ListN.{length, take};
+ghost use Rattle.specification.specs.Limits.{answerArea};
 ghost use Rattle.specification.specs.Sheets.{sheetOf};
 ghost use Rattle.specification.specs.Answers.{answer};
 ghost use Rattle.specification.specs.Calls.{splitCall, readCall};
@@ -50,7 +51,7 @@ fn refused(number: u8, place: usize) -> Outcome
 
 // The answer to the sheet of p and f, from the start of the area on; f is of degree d.
 fn answer_to(out: &mut [u8], p: u8, d: usize, f: [u16; 33]) -> usize
-    requires { ⌜ Monics p f d × (384 ≤ length (now out)) ⌝ }
+    requires { ⌜ Monics p f d × (answerArea ≤ length (now out)) ⌝ }
     ensures { λ r. ⌜ Wrote (now (out .entry)) (now (out .exit)) 0 (answer (sheetOf p (listed d f))) r ⌝ }
 {
     let parts = parts::split(f, d, p as u16);
