@@ -1,5 +1,6 @@
 -- `lines::answer_text` meets its contract.
 -- Assumes nothing.
+use native.Mathlib.Omega.{arith}
 use borrow.Author.Needs.{needs}
 use Rattle.specification.specs.Sheets.{sheetOf}
 use Rattle.verdicts.specs.Given.{listed}
@@ -22,7 +23,7 @@ answer-text-spec =
     let p = start .args .p in
     let d = start .args .d in
     let f = listed d (start .args .f) in
-    let top = degree-listed d (start .args .f) (search needs) in (
+    let top = degree-listed d (start .args .f) (omega (arith, start .pre .0 .reduced .len, start .pre .0 .fits)) in (
       writable p d f (found .result) (found .ensures .is) top (start .pre .1) (found .ensures .few) (found .ensures .arrays),
       room-as (text-of-sheet p d f (found .result) (found .ensures .is) top) (sized-room (answer-sized (sheetOf p f) (start .pre .1)) (start .pre .2)),
     ))  -- write-lines-requires
@@ -32,5 +33,5 @@ answer-text-spec =
     let start = c .before .before .before .before .before .before in
     let p = start .args .p in
     let d = start .args .d in
-    let top = degree-listed d (start .args .f) (search needs) in
+    let top = degree-listed d (start .args .f) (omega (arith, start .pre .0 .reduced .len, start .pre .0 .fits)) in
     wrote-as (text-of-sheet p d (listed d (start .args .f)) (found .result) (found .ensures .is) top) (c .before .before .write-lines .ensures)))  -- returns
