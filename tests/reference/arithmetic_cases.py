@@ -218,8 +218,3 @@ KINDS = (
     maximal_coefficients,
     cancelling,
 )
-
-
-def cases_of(kind) -> list:
-    """The cases of one kind. Each kind has its own source, seeded by its name, so that a new kind changes no other."""
-    return list(kind(random.Random(kind.__name__)))

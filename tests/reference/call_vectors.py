@@ -4,17 +4,17 @@ stdin   for each case its length and the length of the answer area, two bytes ea
 stdout  one line for each case, `number place count`, and the bytes written in hexadecimal if there are any; then `cases N`
 """
 
-import random
 from typing import Callable, Sequence
 
+from kinds import made_by
 from sheet_cases import Call
 from splitter import Outcome
 from stored import write_cases
 
 
 def cases_of(kind: Callable) -> list:
-    """The cases of one kind, each once. Each kind has its own source, seeded by its name, so that a new kind changes no other."""
-    return list(dict.fromkeys(kind(random.Random(kind.__name__))))
+    """The cases of one kind, each once."""
+    return list(dict.fromkeys(made_by(kind)))
 
 
 def case_bytes(case: Call) -> bytes:

@@ -8,7 +8,8 @@ import sys
 
 import arithmetic
 from arithmetic import Answer, Record
-from arithmetic_cases import DIFFERENCE, DIVISION, KINDS, ONE, PRODUCT, SUM, X, ZERO, Case, cases_of
+from arithmetic_cases import DIFFERENCE, DIVISION, KINDS, ONE, PRODUCT, SUM, X, ZERO, Case
+from kinds import made_by
 from stored import write_cases
 
 NAMED = {ZERO: arithmetic.zero, ONE: arithmetic.one, X: arithmetic.x}
@@ -45,7 +46,7 @@ def answer_line(answer: Answer) -> str:
 
 def main(folder: str) -> None:
     """Writes the two files."""
-    write_cases(folder, KINDS, cases_of, case_bytes, lambda case: answer_line(answer_of(case)))
+    write_cases(folder, KINDS, made_by, case_bytes, lambda case: answer_line(answer_of(case)))
 
 
 if __name__ == "__main__":

@@ -10,8 +10,9 @@ import sys
 from typing import NamedTuple
 
 from arithmetic import Record, degree, is_monic, is_proper
+from kinds import made_by
 from make_arithmetic_vectors import record_bytes
-from part_cases import KINDS, cases_of
+from part_cases import KINDS
 from parts import SPLIT, Part, parts_of
 from polynomials import trimmed
 from stored import write_cases
@@ -57,7 +58,7 @@ def line_of(record: Record) -> str:
 
 def main(folder: str) -> None:
     """Writes the two files."""
-    write_cases(folder, KINDS, cases_of, record_bytes, line_of)
+    write_cases(folder, KINDS, made_by, record_bytes, line_of)
 
 
 if __name__ == "__main__":

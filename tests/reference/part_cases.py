@@ -49,8 +49,3 @@ def of_degree_0(source: random.Random) -> Iterator[Record]:
 
 
 KINDS = (taken, improper_prime, improper_coefficient, not_monic, of_degree_0)
-
-
-def cases_of(kind) -> list:
-    """The cases of one kind. Each kind has its own source, seeded by its name, so that a new kind changes no other."""
-    return list(kind(random.Random(kind.__name__)))

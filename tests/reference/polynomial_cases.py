@@ -9,6 +9,7 @@ from typing import Iterator
 
 from arithmetic import LIMIT, TAKEN_PRIMES
 from brute_force import irreducibles, monics, monics_to
+from kinds import made_by
 from polynomials import degree, plus, power, product_of, times
 from sheets import Sheet
 
@@ -153,11 +154,6 @@ KINDS = (
 )
 
 
-def sheets_of(kind) -> list:
-    """The polynomials of one kind. Each kind has its own source, seeded by its name, so that a new kind changes no other."""
-    return list(kind(random.Random(kind.__name__)))
-
-
 def all_sheets() -> list:
     """The polynomials of all kinds."""
-    return [sheet for kind in KINDS for sheet in sheets_of(kind)]
+    return [sheet for kind in KINDS for sheet in made_by(kind)]

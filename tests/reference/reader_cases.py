@@ -8,7 +8,6 @@ from arithmetic import LIMIT, TAKEN_PRIMES
 from byte_strings import (
     TELLING,
     beginnings,
-    damaged,
     some_bytes,
     with_byte_changed,
     with_byte_left_out,
@@ -19,7 +18,7 @@ from byte_strings import (
 from parts import BASIC, POWER, SOLID, SPLIT, parts_of
 from polynomial_cases import all_sheets, some_monic
 from polynomials import degree, minus, plus, power, product_of, times
-from sheet_cases import AREAS, EDGES, EXAMPLES, FULL, TRIALS, Call, short_sheets
+from sheet_cases import EDGES, EXAMPLES, FULL, TRIALS, Call, each_damaged, in_all_areas, short_sheets
 from sheets import COEFFICIENT, DEGREE, END, PRIME, Sheet, coefficient_commands, read_sheet
 
 
@@ -181,8 +180,7 @@ def of_another_prime(source: random.Random) -> Iterator[Call]:
 
 def damaged_at_random(source: random.Random) -> Iterator[Call]:
     """Answers with one to three bytes changed, put in or left out at random."""
-    for good in short_answers(source, 40):
-        yield from (Call(damaged(source, good)) for _ in range(25))
+    yield from each_damaged(source, short_answers(source, 40))
 
 
 def random_strings(source: random.Random) -> Iterator[Call]:
@@ -198,8 +196,7 @@ def random_strings(source: random.Random) -> Iterator[Call]:
 
 def areas(source: random.Random) -> Iterator[Call]:
     """Answers and other strings with areas of many lengths."""
-    inputs = [b"", b"\x00", FULL, answer_to(7, [48] * LIMIT + [1]), *short_answers(source, 16)]
-    yield from (Call(data, area) for data in inputs for area in AREAS)
+    yield from in_all_areas([b"", b"\x00", FULL, answer_to(7, [48] * LIMIT + [1]), *short_answers(source, 16)])
 
 
 KINDS = (

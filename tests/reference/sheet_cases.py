@@ -140,10 +140,20 @@ def bytes_after_the_end(source: random.Random) -> Iterator[Call]:
         yield Call(good[:3] + b"\x21" + good[4:] + b"\x00")
 
 
+def each_damaged(source: random.Random, strings: list) -> Iterator[Call]:
+    """Each string 25 times, with one to three bytes changed, put in or left out at random."""
+    for good in strings:
+        yield from (Call(damaged(source, good)) for _ in range(25))
+
+
+def in_all_areas(strings: list) -> Iterator[Call]:
+    """Each string with areas of many lengths."""
+    yield from (Call(data, area) for data in strings for area in AREAS)
+
+
 def two_faults(source: random.Random) -> Iterator[Call]:
     """Two or three places at fault: the first one ends the reading."""
-    for good in short_sheets(source, 100):
-        yield from (Call(damaged(source, good)) for _ in range(25))
+    yield from each_damaged(source, short_sheets(source, 100))
 
 
 def random_strings(source: random.Random) -> Iterator[Call]:
@@ -159,8 +169,7 @@ def random_strings(source: random.Random) -> Iterator[Call]:
 
 def areas(source: random.Random) -> Iterator[Call]:
     """Good and faulty sheets with areas of many lengths."""
-    inputs = [b"", b"\x00", b"\x01\x04", FULL, FULL[:-1], FULL + b"\x00", *short_sheets(source, 30)]
-    yield from (Call(data, area) for data in inputs for area in AREAS)
+    yield from in_all_areas([b"", b"\x00", b"\x01\x04", FULL, FULL[:-1], FULL + b"\x00", *short_sheets(source, 30)])
 
 
 KINDS = (

@@ -6,7 +6,8 @@ import unittest
 
 from arithmetic import LIMIT, REFUSED, TAKEN_PRIMES, WIDTH, Answer, Record
 from arithmetic import add, degree, divide, is_monic, modulus, multiply, one, subtract, x, zero
-from arithmetic_cases import DEGREES, DIVISION, KINDS, SUM, Case, cases_of
+from arithmetic_cases import DEGREES, DIVISION, KINDS, SUM, Case
+from kinds import made_by
 from make_arithmetic_vectors import answer_line, answer_of, case_bytes
 from records import maximal, monomial, polynomial, some, some_monic, with_coefficient
 
@@ -154,7 +155,7 @@ class Refusals(unittest.TestCase):
 
 class StoredCases(unittest.TestCase):
     def setUp(self):
-        self.kinds = {kind.__name__: cases_of(kind) for kind in KINDS}
+        self.kinds = {kind.__name__: made_by(kind) for kind in KINDS}
 
     def numbers(self, kind):
         return {answer_of(case).number for case in self.kinds[kind]}
@@ -162,7 +163,7 @@ class StoredCases(unittest.TestCase):
     def test_layout(self):
         cases = list(itertools.chain.from_iterable(self.kinds.values()))
         self.assertGreaterEqual(len(cases), 3600)
-        self.assertEqual(cases, [case for kind in KINDS for case in cases_of(kind)])
+        self.assertEqual(cases, [case for kind in KINDS for case in made_by(kind)])
         for case in cases:
             self.assertEqual(len(case_bytes(case)), 135)
             lengths = [len(part.split()) for part in answer_line(answer_of(case)).split(" | ")]
