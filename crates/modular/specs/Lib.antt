@@ -1,3 +1,4 @@
+pub mod Widths
 pub mod Reciprocals
 pub mod Coefficients
 pub mod Arrays

@@ -29,7 +29,7 @@ use Rattle.parts.specs.State.{State, PartsOf, work}
 abbrev pub noPiece : Piece
 noPiece = record { coefs = []; degree = 0; element = record { known = false; v = [] } }
 
--- f is held whole in the first of the pieces at the start
+-- the state of the splitting of f, in the loop's variables
 pub record Splitting (p : ℕ) (f : spec.Poly) (pieces : List Piece) (count : ℕ) (parts : Parts) : Type 0 where
   pub few : count ≤ 32
   pub long : length pieces ≡ 32

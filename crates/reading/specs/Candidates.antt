@@ -72,7 +72,8 @@ module _ {bytes : List ℕ} (s : Sheet) (g : GoodSheet s) (e : bytes ≡ answer 
 
 -- ---- a product of degree 1 or more
 
-array-good : (p d : ℕ) (coefs : List ℕ) → taken p ≡ true → 0 < d → MonicArray (p *ℕ p) d coefs → GoodSheet (sheetOf p (polyIn d coefs))
+-- a monic polynomial in an array makes a good sheet
+pub array-good : (p d : ℕ) (coefs : List ℕ) → taken p ≡ true → 0 < d → MonicArray (p *ℕ p) d coefs → GoodSheet (sheetOf p (polyIn d coefs))
 array-good p d coefs t l m = record { prime = subst T (sym t) tt; monic = to-claims l list; fits = omega (arith, list .reduced .len, m .fits) }
   where
     list : MonicList (p *ℕ p) d (polyIn d coefs)

@@ -2,22 +2,12 @@
 -- Proves this of a call that is turned back and of one that wrote its bytes, and what `splitCall` is in each case. Assumes nothing.
 use mathlib.Core.Path.{_≡_, sym, _∙_, ap}
 use mathlib.Core.List.{List}
-use Prim.Native.Nat.{ℕ, suc, _≤_, _<_}
-use native.Mathlib.Omega.{arith}
-use lib.Seq.{length-take-le}
+use Prim.Native.Nat.{ℕ, _≤_, _<_}
 use borrow.Author.Tests.{lt-ltb, le-ltb}
 use Rattle.specification.specs.Limits.{answerArea}
-use Rattle.specification.specs.Polynomials.{degree}
-use Rattle.specification.specs.Sheets.{Sheet, sheetOf, accepted, fault, readSheet}
+use Rattle.specification.specs.Sheets.{Sheet, accepted, fault, readSheet}
 use Rattle.specification.specs.Answers.{answer}
 use Rattle.specification.specs.Calls as calls
-use Rattle.specification.specs.Promises.{GoodSheet}
-use Rattle.algebra.specs.Numbers.{square-large}
-use Rattle.theorems.specs.MonicLists.{to-claims}
-use Rattle.factors.specs.Cut.{Monics}
-use Rattle.algebra.specs.TakenPrimes.{is-prime}
-use Rattle.verdicts.specs.Given.{listed}
-use Rattle.pieces.specs.ArrayPieces.{listed-monic}
 use Rattle.writing.specs.Area.{Wrote, wrote-from-start}
 use Rattle.splitter.specs.declared.Outcome.{Outcome}
 
@@ -68,17 +58,3 @@ module _ (area : ℕ) (bytes : List ℕ) (l : answerArea ≤ area) where
   pub split-answered : {s : Sheet} → readSheet bytes ≡ accepted s → calls.splitCall area bytes ≡ calls.success (answer s)
   unfolding calls.splitCall calls.answerTo
   split-answered e = rw (le-ltb area answerArea l, e)
-
--- ---- the sheet of a polynomial in an array
-
-module _ {p : ℕ} {f : List ℕ} {d : ℕ} (m : Monics p f d) where
-  pub listed-degree : degree (listed d f) ≡ d
-  listed-degree = omega (arith, length-take-le (suc d) f (omega (arith, m .reduced .len, m .fits)))
-
-  pub good-sheet : GoodSheet (sheetOf p (listed d f))
-  good-sheet = record {
-    prime = rw (m .prime) tt;
-    monic = to-claims (m .positive)
-        (listed-monic (square-large p (is-prime (m .prime) .large)) (record { fits = m .fits; reduced = m .reduced; monic = m .monic }));
-    fits = omega (arith, listed-degree, m .fits);
-  }

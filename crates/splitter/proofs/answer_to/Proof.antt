@@ -1,9 +1,11 @@
 -- `splitter::answer_to` meets its contract.
 -- Assumes nothing.
+use native.Mathlib.Omega.{arith}
 use borrow.Author.Needs.{needs}
 use Rattle.writing.specs.Area.{wrote-as}
+use Rattle.writing.specs.Coefficients.{degree-listed}
+use Rattle.reading.specs.Candidates.{array-good}
 use Rattle.answers.specs.Writable.{answer-of-sheet, writable}
-use Rattle.splitter.specs.Outcomes.{listed-degree, good-sheet}
 use Rattle.splitter.proofs.answer_to.Statement.{statement}
 use Rattle.splitter.proofs.answer_to.Tie as tie
 
@@ -13,11 +15,16 @@ answer-to-spec =
     (tie.spec
     (λ c κs. search needs)  -- split-requires
     (λ c κs.
-    let m = c .before .before .before .pre .0 in
+    let start = c .before .before .before in
+    let m = start .pre .0 in
+    let top = degree-listed (start .args .d) (start .args .f) (omega (arith, m .reduced .len, m .fits)) in
+    let good = array-good _ _ _ (m .prime) (m .positive) (record { fits = m .fits; reduced = m .reduced; monic = m .monic }) in
     let parts = c .before .split .ensures in
-    (writable _ _ _ _ (parts .is) (listed-degree m) (good-sheet m) (parts .few) (parts .arrays), c .before .before .before .pre .1))  -- write-answer-requires
+    (writable _ _ _ _ (parts .is) top good (parts .few) (parts .arrays), start .pre .1))  -- write-answer-requires
     (λ c. search needs)  -- same-length
     (λ c.
-    let m = c .before .before .before .before .before .before .pre .0 in
-    wrote-as (answer-of-sheet _ _ _ (c .before .before .before .before .split .result) (c .before .before .before .before .split .ensures .is)
-    (listed-degree m)) (c .before .before .write-answer .ensures)))  -- returns
+    let start = c .before .before .before .before .before .before in
+    let m = start .pre .0 in
+    let top = degree-listed (start .args .d) (start .args .f) (omega (arith, m .reduced .len, m .fits)) in
+    let found = c .before .before .before .before .split in
+    wrote-as (answer-of-sheet _ _ _ (found .result) (found .ensures .is) top) (c .before .before .write-answer .ensures)))  -- returns
