@@ -17,9 +17,11 @@ use Rattle.algebra.specs.CoefficientLists.{poly}
 use Rattle.factorisation.specs.Irreducible.{Irreducible}
 use Rattle.frobenius.specs.Unsplit.{Unsplit}
 use Rattle.frobenius.specs.PrimaryPowers.{PrimaryPower, primary-degree, unsplit-power}
-use Rattle.theorems.specs.Reductions.{coefficients, bar-poly}
+use Rattle.theorems.specs.Reductions.{coefficients, bar-poly, digit-lift}
+use Rattle.theorems.specs.PartForm.{PartOver, base-monic}
 use Rattle.theorems.specs.Recognised.{Found, FoundOver, splitFound}
 use Rattle.modular.specs.Coefficients.{Represents}
+use Rattle.modular.specs.Arrays.{reduced-square, below-modulo}
 use Rattle.bases.specs.declared.Base.{Base}
 use Rattle.bases.specs.Bases.{BaseFound}
 use Rattle.algebra.specs.TakenPrimes.{is-prime}
@@ -68,28 +70,34 @@ module _ {p : ℕ} {f q : List ℕ} {d : ℕ} (U : UnsplitPiece p f q d) where
     exponent-is = div-eq-of-eq-mul-left degree-positive (sym degree-is)
 
     -- with the exponent of the power
-    given-power : Given p (g .coefs) (g .degree) (power .m) f
+    given-power : Given p (g .coefs) (g .coefs) (g .degree) (power .m) f
     given-power = record {
       prime = U .prime;
       room = omega (arith, degree-is, U .monic .fits);
       base-held = record { reduced = B .reduced; below = B .monic .below };
       part-held = record { reduced = U .monic .reduced; below = whole .monic .below };
-      over = part-in-array p prime (g .coefs) f (g .degree) (power .m)
-          (record { fits = omega (arith, B .small, U .monic .fits); reduced = B .reduced; monic = B .monic }) whole
-          (subst (λ a. Irreducible a) (sym (B .base power)) (power .irreducible)) (power .positive)
-          (sym (U .bar .is) ∙ sym (power .multiplies) ∙ ap (λ a. pow (PolyRing (Residues p)) a (power .m)) (sym (B .base power)));
+      g-held = record { reduced = reduced-square (B .reduced); below = below-modulo (p *ℕ p) (B .reduced) (B .monic .below) };
+      over = over;
+      lift = digit-lift p (prime .large) (base-monic (prime .large) over);
     }
       where
         whole : MonicArray (p *ℕ p) (power .m *ℕ g .degree) f
         whole = subst (λ e. MonicArray (p *ℕ p) e f) (sym degree-is) (U .monic)
 
-    pub part-given : Given p (g .coefs) (g .degree) (d / g .degree) f
-    part-given = subst (λ m. Given p (g .coefs) (g .degree) m f) (sym exponent-is) given-power
+        over : PartOver p (listed (g .degree) (g .coefs)) (power .m) (listed (power .m *ℕ g .degree) f)
+        over =
+            part-in-array p prime (g .coefs) f (g .degree) (power .m)
+            (record { fits = omega (arith, B .small, U .monic .fits); reduced = B .reduced; monic = B .monic }) whole
+            (subst (λ a. Irreducible a) (sym (B .base power)) (power .irreducible)) (power .positive)
+            (sym (U .bar .is) ∙ sym (power .multiplies) ∙ ap (λ a. pow (PolyRing (Residues p)) a (power .m)) (sym (B .base power)))
 
-    base-held : {r : Part} → SplitByItems p (g .coefs) (g .degree) (d / g .degree) f r → Held p (r .degree) (r .base)
+    pub part-given : Given p (g .coefs) (g .coefs) (g .degree) (d / g .degree) f
+    part-given = subst (λ m. Given p (g .coefs) (g .coefs) (g .degree) m f) (sym exponent-is) given-power
+
+    base-held : {r : Part} → SplitByItems p (g .coefs) (g .coefs) (g .degree) (d / g .degree) f r → Held p (r .degree) (r .base)
     base-held {r} s = subst (λ e. Held p e (r .base)) (sym (s .degree-is)) (subst (Held p (g .degree)) (sym (s .base-is)) (part-given .base-held))
 
-    pub part-found : {r : Part} → SplitByItems p (g .coefs) (g .degree) (d / g .degree) f r → PartFound p f d r
+    pub part-found : {r : Part} → SplitByItems p (g .coefs) (g .coefs) (g .degree) (d / g .degree) f r → PartFound p f d r
     part-found {r} s = record {
       found = record { power = record { base = listed (g .degree) (g .coefs); exponent = d / g .degree }; part = listed (d / g .degree *ℕ g .degree) f };
       over = part-given .over;

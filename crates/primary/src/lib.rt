@@ -13,5 +13,6 @@ pub fn primary_part(f: [u16; 33], q: [u16; 33], d: usize, p: u16) -> Part
     let g = base_of_power(q, d, p);
     let base = g.coefs;
     let m = d / g.degree;
-    split_part(base, g.degree, m, f, p)
+    // item 5: the lift of G has the same coefficients
+    split_part(base, base, g.degree, m, f, p)
 }

@@ -31,24 +31,20 @@ pub record Splitting : Type 0 where
 abbrev pub splitInto : Verdict → List Factor → Splitting
 splitInto v qs = record { verdict = v; factors = qs }
 
--- ---- one part, over G to the m
+-- ---- one part, over G to the m, and a monic g modulo p² with bar G
 
-module _ (p : ℕ) (G : Poly) (m : ℕ) (part : Poly) where
-  -- item 5: "G with the same coefficients 0 to p − 1 read modulo p²"
-  abbrev pub g : Poly
-  g = G
+-- item 5: "let part − g^m = p·h"; the bar of h
+unfoldable pub hBar : ℕ → Poly → ℕ → Poly → Poly
+hBar p g m part = reduce p (map (λ (a : ℕ). a / p) (sub (p * p) part (pow (p * p) g m)))
 
-  -- item 5: "let part − g^m = p·h"; the bar of h
-  unfoldable pub hBar : Poly
-  hBar = reduce p (map (λ (a : ℕ). a / p) (sub (p * p) part (pow (p * p) g m)))
-
+module _ (p : ℕ) (G g : Poly) (m : ℕ) (part : Poly) where
   -- item 7: "m1 is the highest power of G that divides h bar"
   unfoldable pub m1 : ℕ
-  m1 = highest p G hBar m
+  m1 = highest p G (hBar p g m part) m
 
   -- items 8 and 9: "With h bar = G^m1 · w"
   unfoldable pub w : Poly
-  w = quotient p (pow p G m1) hBar
+  w = quotient p (pow p G m1) (hBar p g m part)
 
   -- item 8: "u = w/m modulo p"
   unfoldable pub u : Poly
@@ -60,7 +56,7 @@ module _ (p : ℕ) (G : Poly) (m : ℕ) (part : Poly) where
       -- item 4: "m = 1. The factor is the part itself"
       cond (eqb m 1) (splitInto basic (factor part 1 ∷ []))
       -- item 6: "h bar is zero. The factor is g, m times"
-      (cond (isZero hBar) (splitInto power (factor g m ∷ []))
+      (cond (isZero (hBar p g m part)) (splitInto power (factor g m ∷ []))
       -- item 7: "m1 = 0. The part is irreducible"
       (cond (eqb m1 0) (splitInto solid (factor part 1 ∷ []))
       -- item 8: "p does not divide m and m1 = m − 1. .. the factor is g + p·u, m times"
@@ -76,9 +72,17 @@ pub record Part : Type 0 where
   pub exponent : ℕ
   pub splitting : Splitting
 
+-- item 5: g is "G with the same coefficients 0 to p − 1 read modulo p²", so its list is that of G
+abbrev pub digitLift : Poly → Poly
+digitLift G = G
+
+-- a part over a power
+abbrev pub partOver : ℕ → Power → Poly → Part
+partOver p P q = record { base = P .base; exponent = P .exponent; splitting = splitting p (P .base) (digitLift (P .base)) (P .exponent) q }
+
 -- the part of f over a power
 abbrev pub partOf : ℕ → Poly → Power → Part
-partOf p f P = record { base = P .base; exponent = P .exponent; splitting = splitting p (P .base) (P .exponent) (primary p f P) }
+partOf p f P = partOver p P (primary p f P)
 
 -- the parts of f, in the order of item 3
 unfoldable pub partsOf : ℕ → Poly → List Part

@@ -8,7 +8,7 @@ use native.Mathlib.Omega.{arith}
 use lib.ListN.{length, length-append}
 use Rattle.specification.specs.Polynomials as spec
 use Rattle.specification.specs.Powers.{Power, powers, primary}
-use Rattle.specification.specs.Parts.{Factor, splitting, partOf}
+use Rattle.specification.specs.Parts.{Factor, partOf}
 use Rattle.specification.specs.Totals.{copies, listOf, different}
 use Rattle.specification.specs.Claims as claims
 use Rattle.algebra.specs.Numbers.{square-large}
@@ -27,13 +27,13 @@ use Rattle.theorems.specs.MonicLists.{MonicList, monic-poly, monic-list-
 use Rattle.theorems.specs.MonicDivision.{monic-list-one}
 use Rattle.theorems.specs.Irreducibles.{irreducible-poly}
 use Rattle.theorems.specs.PowersOnly.{different-bases}
-use Rattle.theorems.specs.Reductions.{barred, digits-monic}
+use Rattle.theorems.specs.Reductions.{barred, digit-lift}
 use Rattle.theorems.specs.Items.{powers-are, items}
 use Rattle.theorems.specs.ListExtension.{extension}
 use Rattle.theorems.specs.DifferentMembers.{different-factors, different-append}
 use Rattle.theorems.specs.AnswerLayout.{listOf-cons}
 use Rattle.theorems.specs.PartForm.{PartOver, part-over, base-monic}
-use Rattle.theorems.specs.SplitPart.{SplitPart, bar-base}
+use Rattle.theorems.specs.SplitPart.{SplitPart}
 use Rattle.theorems.specs.Verdicts.{part-splits}
 use Rattle.theorems.specs.PartShapes.{partDegrees, records}
 
@@ -47,12 +47,12 @@ module _ (p : ℕ) (prime : Prime p) {d : ℕ} {f : spec.Poly} (mf : MonicList (
   -- what is known of the part over P
   pub record Known (P : Power) : Type 0 where
     pub over : PartOver p (P .base) (P .exponent) (primary p f P)
-    pub split : SplitPart p (prime .large) (P .base) (P .exponent) (primary p f P) (splitting p (P .base) (P .exponent) (primary p f P) .factors)
+    pub split : SplitPart p (prime .large) (P .base) (P .exponent) (primary p f P) (partOf p f P .splitting .factors)
 
   pub known : All Known (powers p f)
   known P i =
       let o = part-over large (powers-are p prime mf .irreducible P i) (powers-are p prime mf .positive P i) (items p prime mf .partHolds P i) in
-      record { over = o; split = part-splits prime o }
+      record { over = o; split = part-splits prime o (digit-lift p large (base-monic large o)) }
 
   -- of all but the first
   abbrev rest : {P : Power} {Ps : List Power} → All Known (P ∷ Ps) → All Known Ps
@@ -72,7 +72,7 @@ module _ (p : ℕ) (prime : Prime p) {d : ℕ} {f : spec.Poly} (mf : MonicList (
   pub monic-parts : (Ps : List Power) (h : All Known Ps) → All (λ q. IsMonic (q .g) × IsMonic (q .P)) (ring-parts Ps h)
   monic-parts Ps h = all-parts _ Ps h
       (λ P i. let k = h P i in (
-        (spec.degree (P .base), rw (k .split .g-is) (monic-poly (digits-monic p large (base-monic large (k .over))))),
+        (spec.degree (P .base), k .split .g-monic),
         (P .exponent *ℕ spec.degree (P .base), rw (k .split .P-is) (monic-poly (k .over .monic))),
       ))
 
@@ -81,7 +81,7 @@ module _ (p : ℕ) (prime : Prime p) {d : ℕ} {f : spec.Poly} (mf : MonicList (
   coprime : {P Q : Power} (k : Known P) (l : Known Q) → claims.Before (P .base) (Q .base)
       → Coprime (PolyRing (Residues p)) (barred p large (k .split .ring .g)) (barred p large (l .split .ring .g))
   coprime k l b =
-      rw (bar-base (k .split), bar-base (l .split))
+      rw (k .split .g-bar, l .split .g-bar)
       (different-coprime (residue-field p prime) (irreducible-poly large (k .over .irreducible)) (irreducible-poly large (l .over .irreducible))
       (different-bases p prime (k .over .irreducible .monic) (l .over .irreducible .monic) b))
 
@@ -109,7 +109,7 @@ module _ (p : ℕ) (prime : Prime p) {d : ℕ} {f : spec.Poly} (mf : MonicList (
   unfolding ring-parts
   list-product [] h = unfold listOf flatMap in refl
   list-product (P ∷ Ps) h =
-      let qs : List Factor = splitting p (P .base) (P .exponent) (primary p f P) .factors in
+      let qs : List Factor = partOf p f P .splitting .factors in
       ap (λ l. product 𝓐 (map (poly (p *ℕ p)) l)) (listOf-cons (partOf p f P) (map (partOf p f) Ps))
       ∙ ap (product 𝓐) (map-append (poly (p *ℕ p)) (flatMap copies qs) (list-over Ps))
       ∙ product-append 𝓐 (map (poly (p *ℕ p)) (flatMap copies qs)) (map (poly (p *ℕ p)) (list-over Ps))
@@ -124,7 +124,7 @@ module _ (p : ℕ) (prime : Prime p) {d : ℕ} {f : spec.Poly} (mf : MonicList (
   list-size [] h = unfold listOf flatMap total in refl
   list-size (P ∷ Ps) h =
       let k = h P (here refl) .split in
-      let qs : List Factor = splitting p (P .base) (P .exponent) (primary p f P) .factors in
+      let qs : List Factor = partOf p f P .splitting .factors in
       omega (
         arith,
         ap length (listOf-cons (partOf p f P) (map (partOf p f) Ps)),
@@ -139,7 +139,7 @@ module _ (p : ℕ) (prime : Prime p) {d : ℕ} {f : spec.Poly} (mf : MonicList (
   list-different [] h = unfold listOf flatMap different in omega arith
   list-different (P ∷ Ps) h =
       let k = h P (here refl) .split in
-      let qs : List Factor = splitting p (P .base) (P .exponent) (primary p f P) .factors in
+      let qs : List Factor = partOf p f P .splitting .factors in
       omega (
         arith,
         ap different (listOf-cons (partOf p f P) (map (partOf p f) Ps)),
@@ -165,7 +165,7 @@ module _ (p : ℕ) (prime : Prime p) {d : ℕ} {f : spec.Poly} (mf : MonicList (
   list-monic [] h = unfold listOf flatMap in λ q i. elim i [ ]
   list-monic (P ∷ Ps) h =
       rw (listOf-cons (partOf p f P) (map (partOf p f) Ps))
-      (all-append (copies-monic (splitting p (P .base) (P .exponent) (primary p f P) .factors) (h P (here refl) .split .monic)) (list-monic Ps (rest h)))
+      (all-append (copies-monic (partOf p f P .splitting .factors) (h P (here refl) .split .monic)) (list-monic Ps (rest h)))
 
   -- the degrees of the parts add up to that of their product
   pub parts-monic : (Ps : List Power) → All Known Ps → MonicList (p *ℕ p) (partDegrees (map (partOf p f) Ps)) (spec.product (p *ℕ p) (map (primary p f) Ps))

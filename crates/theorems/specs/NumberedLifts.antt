@@ -18,7 +18,7 @@ use Rattle.factorisation.specs.Sums.{total, total-nil, total-cons}
 use Rattle.factorisation.specs.ExtensionLaws.{π-injective}
 use Rattle.theorems.specs.MonicLists.{MonicList}
 use Rattle.theorems.specs.Enumeration.{polynomials-member}
-use Rattle.theorems.specs.Reductions.{bar-poly, lift-monic, lift-bar, lifts-has}
+use Rattle.theorems.specs.Reductions.{LiftOf, bar-poly, lift-monic, lift-bar, lifts-has}
 use Rattle.theorems.specs.ListExtension.{extension, lift-is}
 use Rattle.theorems.specs.Numberings.{Each, each-numbered, carried}
 
@@ -41,12 +41,7 @@ reduced-digits {p} {ds = ds} r = record { count = r .len; low = low ds (r .low) 
 
 -- ---- lifts
 
--- a monic list modulo p² whose bar is G
-pub record LiftOf (p : ℕ) (G x : spec.Poly) : Type 0 where
-  pub monic : MonicList (p * p) (spec.degree G) x
-  pub bar : spec.reduce p x ≡ G
-
--- k of them
+-- k lifts of G
 pub record LiftsOf (p : ℕ) (G : spec.Poly) (k : ℕ) (xs : List spec.Poly) : Type 0 where
   pub count : length xs ≡ k
   pub lifted : All (LiftOf p G) xs

@@ -1,5 +1,6 @@
--- Items 5 and 7 of a part over G to the m: the h of part = g^m + p·h, the power m1 and the w of h bar = G^m1 · w, as polynomials.
--- Proves both equations, the degrees of h and w, and that m1 is the highest power, below m where h bar is not zero. Assumes nothing.
+-- Items 5 and 7 of a part over G to the m, for any monic g modulo p² with bar G: the h of part = g^m + p·h, the power m1 and the w of
+-- h bar = G^m1 · w, as polynomials. Proves both equations, the degrees of h and w, and that m1 is the highest power, below m where h bar is
+-- not zero. Assumes nothing.
 use mathlib.Core.Path.{_≡_, sym, _∙_, ap, subst}
 use mathlib.Core.List.{map}
 use mathlib.Core.Logic.{_≢_, ⊎-elim}
@@ -28,7 +29,7 @@ use Rattle.factorisation.specs.Kernel.{kernel-sub}
 use Rattle.factorisation.specs.PolynomialExtension.{below-part}
 use Rattle.theorems.specs.MonicLists.{MonicList, monic-poly, from-claims}
 use Rattle.theorems.specs.MonicDivision.{Divides, Highest, highest-is, monic-list-pow}
-use Rattle.theorems.specs.Reductions.{coefficients, barred, bar-poly, digits-monic}
+use Rattle.theorems.specs.Reductions.{LiftOf, coefficients, barred, bar-poly, lift-over}
 use Rattle.theorems.specs.ListExtension.{extension, part-list}
 
 -- items 1 and 2: a monic part modulo p² whose bar is the m-th power of an irreducible G
@@ -67,123 +68,120 @@ module _ {p : ℕ} (large : 1 < p) {G : spec.Poly} {m : ℕ} {part : spec.Poly} 
   pub base-monic : MonicList p (spec.degree G) G
   base-monic = from-claims (omega arith) (over .irreducible .monic)
 
-  -- ---- item 5
+  module _ {g : spec.Poly} (lift : LiftOf p G g) where
+    -- ---- item 5
 
-  -- "G with the same coefficients 0 to p − 1 read modulo p²"
-  abbrev g : ℤ[x]/ (p *ℕ p)
-  g = poly (p *ℕ p) G
+    -- part − g^m
+    abbrev difference : spec.Poly
+    difference = spec.sub (p *ℕ p) part (spec.pow (p *ℕ p) g m)
 
-  -- part − g^m
-  abbrev difference : spec.Poly
-  difference = spec.sub (p *ℕ p) part (spec.pow (p *ℕ p) G m)
+    -- "let part − g^m = p·h"
+    abbrev pub h : ℤ[x]/ (p *ℕ p)
+    h = poly (p *ℕ p) (map (λ (a : ℕ). a / p) difference)
 
-  -- "let part − g^m = p·h"
-  abbrev pub h : ℤ[x]/ (p *ℕ p)
-  h = poly (p *ℕ p) (map (λ (a : ℕ). a / p) difference)
+    pub power-monic : (k : ℕ) → MonicList (p *ℕ p) (k *ℕ spec.degree G) (spec.pow (p *ℕ p) g k)
+    power-monic = monic-list-pow (square-large p large) (lift .monic)
 
-  pub power-monic : (k : ℕ) → MonicList (p *ℕ p) (k *ℕ spec.degree G) (spec.pow (p *ℕ p) G k)
-  power-monic = monic-list-pow (square-large p large) (digits-monic p large base-monic)
+    poly-difference : poly (p *ℕ p) difference ≡ poly (p *ℕ p) part + - poly (p *ℕ p) (spec.pow (p *ℕ p) g m)
+    poly-difference = poly-sub (p *ℕ p) (omega (arith, square-large p large)) part (spec.pow (p *ℕ p) g m)
 
-  poly-difference : poly (p *ℕ p) difference ≡ poly (p *ℕ p) part + - poly (p *ℕ p) (spec.pow (p *ℕ p) G m)
-  poly-difference = poly-sub (p *ℕ p) (omega (arith, square-large p large)) part (spec.pow (p *ℕ p) G m)
+    poly-power : poly (p *ℕ p) (spec.pow (p *ℕ p) g m) ≡ pow 𝓐 (poly (p *ℕ p) g) m
+    poly-power = poly-pow (p *ℕ p) (omega (arith, square-large p large)) g m
 
-  poly-power : poly (p *ℕ p) (spec.pow (p *ℕ p) G m) ≡ pow 𝓐 g m
-  poly-power = poly-pow (p *ℕ p) (omega (arith, square-large p large)) G m
+    part-difference : extension p large .part (poly (p *ℕ p) difference) ≡ h
+    part-difference = part-list p large difference (unfold spec.sub spec.add in low-reduce (p *ℕ p) (omega (arith, square-large p large)) _)
 
-  part-difference : extension p large .part (poly (p *ℕ p) difference) ≡ h
-  part-difference = part-list p large difference (unfold spec.sub spec.add in low-reduce (p *ℕ p) (omega (arith, square-large p large)) _)
+    same-bar : barred p large (poly (p *ℕ p) part) ≡ barred p large (poly (p *ℕ p) (spec.pow (p *ℕ p) g m))
+    same-bar =
+        bar-poly p large part ∙ sym (poly-reduce p (omega arith) part) ∙ ap (poly p) (over .bar) ∙ poly-pow p (omega arith) G m
+        ∙ sym (ap (barred p large) poly-power ∙ bar-pow (extension p large) (poly (p *ℕ p) g) m ∙ ap (λ a. pow 𝓑 a m) (lift-over p large lift))
 
-  same-bar : barred p large (poly (p *ℕ p) part) ≡ barred p large (poly (p *ℕ p) (spec.pow (p *ℕ p) G m))
-  same-bar =
-      bar-poly p large part ∙ sym (poly-reduce p (omega arith) part) ∙ ap (poly p) (over .bar) ∙ poly-pow p (omega arith) G m
-      ∙ sym (ap (barred p large) poly-power ∙ bar-pow (extension p large) g m ∙ ap (λ a. pow 𝓑 a m) (bar-poly p large G))
+    pub shape : poly (p *ℕ p) part ≡ pow 𝓐 (poly (p *ℕ p) g) m + extension p large .π · h
+    shape =
+        linear1 𝓐 𝟏
+        (sym poly-difference
+        ∙ extension p large .kernel (poly (p *ℕ p) difference) (ap (barred p large) poly-difference ∙ kernel-sub (extension p large) same-bar)
+        ∙ ap (λ a. extension p large .π · a) part-difference)
+        (solve 𝓐 4 (λ P x π h. P ⊖ (x ⊕ π ⊗ h) ≈ con 1 ⊗ (P ⊖ x ⊖ π ⊗ h)) tt
+        (poly (p *ℕ p) part) (poly (p *ℕ p) (spec.pow (p *ℕ p) g m)) (extension p large .π) h)
+        ∙ ap (λ a. a + extension p large .π · h) poly-power
 
-  pub shape : poly (p *ℕ p) part ≡ pow 𝓐 g m + extension p large .π · h
-  shape =
-      linear1 𝓐 𝟏
-      (sym poly-difference
-      ∙ extension p large .kernel (poly (p *ℕ p) difference) (ap (barred p large) poly-difference ∙ kernel-sub (extension p large) same-bar)
-      ∙ ap (λ a. extension p large .π · a) part-difference)
-      (solve 𝓐 4 (λ P x π h. P ⊖ (x ⊕ π ⊗ h) ≈ con 1 ⊗ (P ⊖ x ⊖ π ⊗ h)) tt
-      (poly (p *ℕ p) part) (poly (p *ℕ p) (spec.pow (p *ℕ p) G m)) (extension p large .π) h)
-      ∙ ap (λ a. a + extension p large .π · h) poly-power
+    pub bar-h : barred p large h ≡ poly p (hBar p g m part)
+    unfolding hBar
+    bar-h = bar-poly p large _ ∙ sym (poly-reduce p (omega arith) _)
 
-  pub bar-h : barred p large h ≡ poly p (hBar p G m part)
-  unfolding hBar
-  bar-h = bar-poly p large _ ∙ sym (poly-reduce p (omega arith) _)
+    -- both leading coefficients are 1
+    below-difference : Below (m *ℕ spec.degree G) (poly (p *ℕ p) difference)
+    below-difference = rw poly-difference (monic-difference (monic-poly (over .monic)) (monic-poly (power-monic m)))
 
-  -- both leading coefficients are 1
-  below-difference : Below (m *ℕ spec.degree G) (poly (p *ℕ p) difference)
-  below-difference = rw poly-difference (monic-difference (monic-poly (over .monic)) (monic-poly (power-monic m)))
+    pub below-h : Below (m *ℕ spec.degree G) (poly p (hBar p g m part))
+    below-h =
+        subst (Below (m *ℕ spec.degree G)) bar-h
+        (below-map ((coefficients p large) .hom)
+        (subst (Below (m *ℕ spec.degree G)) part-difference (below-part (coefficients p large) below-difference)))
 
-  pub below-h : Below (m *ℕ spec.degree G) (poly p (hBar p G m part))
-  below-h =
-      subst (Below (m *ℕ spec.degree G)) bar-h
-      (below-map ((coefficients p large) .hom)
-      (subst (Below (m *ℕ spec.degree G)) part-difference (below-part (coefficients p large) below-difference)))
+    -- its top coefficient, 0, is written
+    length-h : length (hBar p g m part) ≡ suc (m *ℕ spec.degree G)
+    unfolding hBar
+    length-h =
+        length-reduce p _ ∙ length-map difference (λ (a : ℕ). a / p)
+        ∙ length-sub (p *ℕ p) part (spec.pow (p *ℕ p) g m) (omega (arith, power-monic m .reduced .len, over .monic .reduced .len))
+        ∙ over .monic .reduced .len
 
-  -- its top coefficient, 0, is written
-  length-h : length (hBar p G m part) ≡ suc (m *ℕ spec.degree G)
-  unfolding hBar
-  length-h =
-      length-reduce p _ ∙ length-map difference (λ (a : ℕ). a / p)
-      ∙ length-sub (p *ℕ p) part (spec.pow (p *ℕ p) G m) (omega (arith, power-monic m .reduced .len, over .monic .reduced .len))
-      ∙ over .monic .reduced .len
+    -- ---- item 7: "m1 is the highest power of G that divides h bar", "h bar = G^m1 · w"
 
-  -- ---- item 7: "m1 is the highest power of G that divides h bar", "h bar = G^m1 · w"
+    -- G^k divides h bar
+    abbrev pub PowerDivides : ℕ → Type 0
+    PowerDivides k = _∣_ 𝓑 (pow 𝓑 (poly p G) k) (poly p (hBar p g m part))
 
-  -- G^k divides h bar
-  abbrev pub PowerDivides : ℕ → Type 0
-  PowerDivides k = _∣_ 𝓑 (pow 𝓑 (poly p G) k) (poly p (hBar p G m part))
+    pub record HighestPower : Type 0 where
+      pub less : m1 p G g m part < m
+      pub law : poly p (w p G g m part) · pow 𝓑 (poly p G) (m1 p G g m part) ≡ poly p (hBar p g m part)
+      pub exact : ¬ PowerDivides (suc (m1 p G g m part))
+      pub below : Below ((m - m1 p G g m part) *ℕ spec.degree G) (poly p (w p G g m part))
+      pub length-w : length (w p G g m part) ≡ suc ((m - m1 p G g m part) *ℕ spec.degree G)
 
-  pub record HighestPower : Type 0 where
-    pub less : m1 p G m part < m
-    pub law : poly p (w p G m part) · pow 𝓑 (poly p G) (m1 p G m part) ≡ poly p (hBar p G m part)
-    pub exact : ¬ PowerDivides (suc (m1 p G m part))
-    pub below : Below ((m - m1 p G m part) *ℕ spec.degree G) (poly p (w p G m part))
-    pub length-w : length (w p G m part) ≡ suc ((m - m1 p G m part) *ℕ spec.degree G)
+    pub highest-power : poly p (hBar p g m part) ≢ 𝟎 → HighestPower
+    highest-power nonzero = record {
+      less = less;
+      law = law;
+      exact = λ v. top .top (suc k) (omega arith) less (rw (poly-pow p (omega arith) G (suc k)) v);
+      below = below-factor (monic-pow (monic-poly base-monic) k) ((m - k) *ℕ d) (poly p (w p G g m part)) (rw (law, degrees) below-h);
+      length-w = unfold w in
+          length-quotient p (omega arith) (k *ℕ d) (spec.pow p G k) (power .reduced .len) (monic-poly power) (hBar p g m part)
+          ∙ omega (arith, length-h, degrees);
+    }
+      where
+        d : ℕ
+        d = spec.degree G
 
-  pub highest-power : poly p (hBar p G m part) ≢ 𝟎 → HighestPower
-  highest-power nonzero = record {
-    less = less;
-    law = law;
-    exact = λ v. top .top (suc k) (omega arith) less (rw (poly-pow p (omega arith) G (suc k)) v);
-    below = below-factor (monic-pow (monic-poly base-monic) k) ((m - k) *ℕ d) (poly p (w p G m part)) (rw (law, degrees) below-h);
-    length-w = unfold w in
-        length-quotient p (omega arith) (k *ℕ d) (spec.pow p G k) (power .reduced .len) (monic-poly power) (hBar p G m part)
-        ∙ omega (arith, length-h, degrees);
-  }
-    where
-      d : ℕ
-      d = spec.degree G
+        k : ℕ
+        k = m1 p G g m part
 
-      k : ℕ
-      k = m1 p G m part
+        power : MonicList p (k *ℕ d) (spec.pow p G k)
+        power = monic-list-pow large base-monic k
 
-      power : MonicList p (k *ℕ d) (spec.pow p G k)
-      power = monic-list-pow large base-monic k
+        top : Highest large G (hBar p g m part) m k
+        top = unfold m1 in highest-is large base-monic (hBar p g m part) m
 
-      top : Highest large G (hBar p G m part) m k
-      top = unfold m1 in highest-is large base-monic (hBar p G m part) m
+        -- a multiple of G^m that is of lower degree is zero
+        not-all : k ≢ m
+        not-all e =
+            let (q, s) = subst (λ (j : ℕ). Divides p (spec.pow p G j) (hBar p g m part)) e (top .divides) in
+            nonzero (sym s
+            ∙ ap (λ a. a · poly p (spec.pow p G m))
+            (small-multiple (monic-poly (monic-list-pow large base-monic m)) q (rw s below-h))
+            ∙ zero-mul 𝓑 (poly p (spec.pow p G m)))
 
-      -- a multiple of G^m that is of lower degree is zero
-      not-all : k ≢ m
-      not-all e =
-          let (q, s) = subst (λ (j : ℕ). Divides p (spec.pow p G j) (hBar p G m part)) e (top .divides) in
-          nonzero (sym s
-          ∙ ap (λ a. a · poly p (spec.pow p G m))
-          (small-multiple (monic-poly (monic-list-pow large base-monic m)) q (rw s below-h))
-          ∙ zero-mul 𝓑 (poly p (spec.pow p G m)))
+        less : k < m
+        less = ⊎-elim (λ e. absurd (not-all e)) (λ l. l) (eq-or-lt-of-le (top .bound))
 
-      less : k < m
-      less = ⊎-elim (λ e. absurd (not-all e)) (λ l. l) (eq-or-lt-of-le (top .bound))
+        degrees : (m - k) *ℕ d +ℕ k *ℕ d ≡ m *ℕ d
+        degrees =
+            let s : (m - k) *ℕ d +ℕ k *ℕ d ≡ (m - k +ℕ k) *ℕ d = omega arith in
+            s ∙ ap (λ (j : ℕ). j *ℕ d) (let t : m - k +ℕ k ≡ m = omega (arith, less) in t)
 
-      degrees : (m - k) *ℕ d +ℕ k *ℕ d ≡ m *ℕ d
-      degrees =
-          let s : (m - k) *ℕ d +ℕ k *ℕ d ≡ (m - k +ℕ k) *ℕ d = omega arith in
-          s ∙ ap (λ (j : ℕ). j *ℕ d) (let t : m - k +ℕ k ≡ m = omega (arith, less) in t)
-
-      law : poly p (w p G m part) · pow 𝓑 (poly p G) k ≡ poly p (hBar p G m part)
-      law = unfold w in
-          ap (λ a. poly p (w p G m part) · a) (sym (poly-pow p (omega arith) G k))
-          ∙ divides-exact p (omega arith) (k *ℕ d) (spec.pow p G k) (power .reduced .len) (monic-poly power) (hBar p G m part) (top .divides)
+        law : poly p (w p G g m part) · pow 𝓑 (poly p G) k ≡ poly p (hBar p g m part)
+        law = unfold w in
+            ap (λ a. poly p (w p G g m part) · a) (sym (poly-pow p (omega arith) G k))
+            ∙ divides-exact p (omega arith) (k *ℕ d) (spec.pow p G k) (power .reduced .len) (monic-poly power) (hBar p g m part) (top .divides)

@@ -27,13 +27,12 @@ use Rattle.factorisation.specs.LongestLists.{Part, Proper, length-at-most}
 use Rattle.factorisation.specs.Blocks.{multiplicity, divisor-bar}
 use Rattle.factorisation.specs.Settings.{Setting, first-bar}
 use Rattle.theorems.specs.MonicLists.{MonicList, monic-poly, from-claims}
-use Rattle.theorems.specs.Reductions.{barred, bar-poly}
+use Rattle.theorems.specs.Reductions.{LiftOf, barred, bar-poly}
 use Rattle.theorems.specs.ListExtension.{extension, monic-bar, monic-proper}
 use Rattle.theorems.specs.PartForm.{PartOver, base-monic}
-use Rattle.theorems.specs.SplitPart.{SplitPart, bar-base}
+use Rattle.theorems.specs.SplitPart.{SplitPart}
 use Rattle.theorems.specs.ListEnds.{then}
 use Rattle.theorems.specs.Factorisations.{factorisation-product, product-then}
-use Rattle.theorems.specs.NumberedLifts.{LiftOf}
 
 module _ {p : ℕ} (prime : Prime p) {G : spec.Poly} {m : ℕ} {part : spec.Poly} (over : PartOver p G m part)
     {qs : List Factor} (S : SplitPart p (prime .large) G m part qs) where
@@ -50,7 +49,7 @@ module _ {p : ℕ} (prime : Prime p) {G : spec.Poly} {m : ℕ} {part : spec.Poly
   𝓐 = PolyRing (Residues n)
 
   monic-base : Monic (spec.degree G) (barred p large (S .ring .g))
-  monic-base = rw (bar-base S) (monic-poly (base-monic large over))
+  monic-base = rw (S .g-bar) (monic-poly (base-monic large over))
 
   base-is-monic : IsMonic (barred p large (S .ring .g))
   base-is-monic = (spec.degree G, monic-base)
@@ -69,7 +68,7 @@ module _ {p : ℕ} (prime : Prime p) {G : spec.Poly} {m : ℕ} {part : spec.Poly
     member-lift e = record {
       monic = subst (λ (d : ℕ). MonicList n d x) degree (from-claims pos monic);
       bar = same-list (record { len = length-reduce p x ∙ omega (arith, degree, monic .positive); low = low-reduce p (omega arith) x })
-          (base-monic large over .reduced) (poly-reduce p (omega arith) x ∙ sym (bar-poly p large x) ∙ e ∙ bar-base S);
+          (base-monic large over .reduced) (poly-reduce p (omega arith) x ∙ sym (bar-poly p large x) ∙ e ∙ S .g-bar);
     }
       where
         degree : spec.degree x ≡ spec.degree G

@@ -29,7 +29,7 @@ use Rattle.theorems.specs.MonicDivision.{Divides, Exact, exact, monic-li
 use Rattle.theorems.specs.Reductions.{barred, bar-poly}
 use Rattle.theorems.specs.ListExtension.{extension}
 use Rattle.theorems.specs.PartForm.{PartOver, base-monic}
-use Rattle.theorems.specs.SplitPart.{SplitPart, bar-base}
+use Rattle.theorems.specs.SplitPart.{SplitPart}
 use Rattle.theorems.specs.ListEnds.{then, length-then, last-equal, last-member}
 use Rattle.theorems.specs.Factorisations.{monic-equal, factorisation, factorisation-product, product-then}
 use Rattle.theorems.specs.Numberings.{carried}
@@ -86,7 +86,7 @@ module _ {p : ℕ} (prime : Prime p) {G : spec.Poly} {m : ℕ} {part : spec.Poly
   lift-divides xs l =
       rw (poly-product n pos xs, ← S .P-is)
       (first-divide (extension p large) (S .ring) (S .ring .m - s) room
-      (rw (bar-base S) (S .divides)) (map (poly n) xs) bars (omega (arith, l .count, S .ring .one, length-map xs (poly n))))
+      (rw (S .g-bar) (S .divides)) (map (poly n) xs) bars (omega (arith, l .count, S .ring .one, length-map xs (poly n))))
     where
       room : s +ℕ (S .ring .m - s) ≡ S .ring .m
       room = omega (arith, S .room, S .m-is)
@@ -94,7 +94,7 @@ module _ {p : ℕ} (prime : Prime p) {G : spec.Poly} {m : ℕ} {part : spec.Poly
       bars : All (λ a. barred p large a ≡ barred p large (S .ring .g)) (map (poly n) xs)
       bars =
           all-map (λ a. barred p large a ≡ barred p large (S .ring .g)) (poly n) xs
-          (λ x i. bar-poly p large x ∙ sym (poly-reduce p (omega arith) x) ∙ ap (poly p) (l .lifted x i .bar) ∙ sym (bar-base S))
+          (λ x i. bar-poly p large x ∙ sym (poly-reduce p (omega arith) x) ∙ ap (poly p) (l .lifted x i .bar) ∙ sym (S .g-bar))
 
   -- what the members xs leave of the part
   abbrev rest : List spec.Poly → spec.Poly

@@ -8,7 +8,7 @@ use Prim.Native.Nat.{ℕ, _≤_, _*_ as _*ℕ_}
 use native.Mathlib.Omega.{arith}
 use Rattle.specification.specs.Polynomials as spec
 use Rattle.specification.specs.Powers.{Power, powers, primary}
-use Rattle.specification.specs.Parts.{Part, splitting, partOf, partsOf}
+use Rattle.specification.specs.Parts.{Part, partOver, partOf, partsOf}
 use Rattle.specification.specs.Claims as claims
 use Rattle.algebra.specs.Numbers.{square-large}
 use Rattle.algebra.specs.Divisibility.{product}
@@ -36,11 +36,7 @@ FoundOver p F = PartOver p (F .power .base) (F .power .exponent) (F .part)
 
 -- with the verdict and the factors of items 4 to 9
 abbrev pub splitFound : ℕ → Found → Part
-splitFound p F = record {
-  base = F .power .base;
-  exponent = F .power .exponent;
-  splitting = splitting p (F .power .base) (F .power .exponent) (F .part);
-}
+splitFound p F = partOver p (F .power) (F .part)
 
 map-equal : {A B : Type 0} (g h : A → B) (l : List A) → All (λ a. g a ≡ h a) l → map g l ≡ map h l
 map-equal g h [] e = refl

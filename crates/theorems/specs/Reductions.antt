@@ -1,5 +1,6 @@
 -- Lists modulo p² and their bars: the specification's `reduce p` and `lift p` are reduction and lift of polynomials over ℤ/p² → ℤ/p.
--- Proves that the lifts of a monic list q are exactly the monic lists modulo p² whose bar is q. Assumes nothing.
+-- Defines `LiftOf`: monic lists modulo p² with a given bar. Proves that the specification's lifts of a monic list are exactly these.
+-- Assumes nothing.
 use mathlib.Core.Path.{_≡_, refl, sym, _∙_, ap, ap₂, subst}
 use mathlib.Core.List.{List, map, Memᴰ·of-map, Memᴰ·map, Memᴰ·cast}
 use mathlib.Core.Logic.{⊎-elim}
@@ -10,6 +11,7 @@ use lib.ListN.{length, getD, take, length-map, length-take, List·getD-eq-defaul
 use lib.Seq.{getD-take, length-take-le}
 use Rattle.specification.specs.Polynomials as spec
 use Rattle.specification.specs.Powers.{lifts, polynomials}
+use Rattle.specification.specs.Parts.{digitLift}
 use Rattle.algebra.specs.Numbers.{square-large}
 use Rattle.algebra.specs.Numbers.{lt-or-le}
 use Rattle.algebra.specs.Ring.{add-zero, zero-mul}
@@ -23,6 +25,11 @@ use Rattle.algebra.specs.ListShapes.{length-add, length-reduce, length-scale, l
 use Rattle.factorisation.specs.Members.{_∈_}
 use Rattle.theorems.specs.MonicLists.{MonicList, monic-poly, monic-reduced, monic-same}
 use Rattle.theorems.specs.Enumeration.{polynomials-member, polynomials-has}
+
+-- a monic list modulo p² whose bar is G
+pub record LiftOf (p : ℕ) (G g : spec.Poly) : Type 0 where
+  pub monic : MonicList (p *ℕ p) (spec.degree G) g
+  pub bar : spec.reduce p g ≡ G
 
 module _ (p : ℕ) (large : 1 < p) where
   -- ℤ/p² → ℤ/p
@@ -45,6 +52,17 @@ module _ (p : ℕ) (large : 1 < p) where
   digits-monic m = record {
     reduced = record { len = m .reduced .len; low = λ k. omega (arith, m .reduced .low k, mul-le-mul-left p (let l : 1 ≤ p = omega arith in l)) };
     leads = m .leads;
+  }
+
+  -- the bar of a lift
+  pub lift-over : {G g : spec.Poly} → LiftOf p G g → barred (poly (p *ℕ p) g) ≡ poly p G
+  lift-over {g = g} l = bar-poly g ∙ sym (poly-reduce p (omega arith) g) ∙ ap (poly p) (l .bar)
+
+  -- item 5: G itself, read modulo p², is one
+  pub digit-lift : {G : spec.Poly} → MonicList p (spec.degree G) G → LiftOf p G (digitLift G)
+  digit-lift {G} m = record {
+    monic = digits-monic m;
+    bar = same-list (record { len = length-reduce p G ∙ m .reduced .len; low = low-reduce p (omega arith) G }) (m .reduced) (poly-reduce p (omega arith) G);
   }
 
   -- p, as a constant polynomial

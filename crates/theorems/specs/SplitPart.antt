@@ -18,6 +18,7 @@ use Rattle.algebra.specs.Ring.{CommRing, mul-one}
 use Rattle.algebra.specs.Divisibility.{_∣_, pow, pow-one, product, product-nil, product-cons}
 use Rattle.algebra.specs.Residues.{Residues}
 use Rattle.algebra.specs.Polynomials.{PolyRing, _·_, 𝟎}
+use Rattle.algebra.specs.Degree.{Monic}
 use Rattle.algebra.specs.Fields.{Prime, residue-nontrivial}
 use Rattle.algebra.specs.CoefficientLists.{ℤ[x]/, poly}
 use Rattle.factorisation.specs.Members.{_∈_, All, all-cons}
@@ -26,7 +27,7 @@ use Rattle.factorisation.specs.ExtensionLaws.{number}
 use Rattle.factorisation.specs.MonicDivisors.{monic-degree}
 use Rattle.factorisation.specs.LongestLists.{Part, Split}
 use Rattle.theorems.specs.MonicLists.{monic-poly, monic-same}
-use Rattle.theorems.specs.Reductions.{barred, bar-poly}
+use Rattle.theorems.specs.Reductions.{LiftOf, barred, lift-over}
 use Rattle.theorems.specs.Irreducibles.{prime-poly}
 use Rattle.theorems.specs.Factors.{degrees, repeats, length-members, members-monic, powered, poly-members}
 use Rattle.theorems.specs.ListExtension.{extension}
@@ -46,7 +47,8 @@ pub record SplitPart (p : ℕ) (large : 1 < p) (G : spec.Poly) (m : ℕ) (part :
   pub not-lower : (q : Factor) → q ∈ qs → spec.degree G ≤ spec.degree (q .poly)
   -- the part as the theory of longest lists has it, for as many factors as are written, each entry of qs a different one
   pub ring : Part (extension p large)
-  pub g-is : ring .g ≡ poly (p *ℕ p) G
+  pub g-monic : Monic (spec.degree G) (ring .g)
+  pub g-bar : barred p large (ring .g) ≡ poly p G
   pub m-is : ring .m ≡ m
   pub P-is : ring .P ≡ poly (p *ℕ p) part
   pub s-is : ring .s ≡ length (flatMap copies qs)
@@ -54,11 +56,6 @@ pub record SplitPart (p : ℕ) (large : 1 < p) (G : spec.Poly) (m : ℕ) (part :
   -- s is m at most, and G^(s − 1) divides h bar
   pub room : ring .s ≤ m
   pub divides : _∣_ (PolyRing (Residues p)) (pow (PolyRing (Residues p)) (poly p G) (ring .s - 1)) (barred p large (ring .h))
-
--- the bar of g is G
-pub bar-base : {p : ℕ} {large : 1 < p} {G : spec.Poly} {m : ℕ} {part : spec.Poly} {qs : List Factor} (S : SplitPart p large G m part qs)
-    → barred p large (S .ring .g) ≡ poly p G
-bar-base {p} {large} {G} S = ap (barred p large) (S .g-is) ∙ bar-poly p large G
 
 -- where the repeats are m at most, a factor of lower degree than G would leave the degrees' sum too small
 lowest : (d e t u m : ℕ) → 1 ≤ t → t +ℕ u ≤ m → e *ℕ t +ℕ d *ℕ u ≡ m *ℕ d → d ≤ e
@@ -81,7 +78,7 @@ none-lower G m qs (inr (q, r, e, same)) sum few one =
     (omega (arith, rw e at sum, ap (λ (k : ℕ). k *ℕ q .times) same)))
     (λ r i. elim i [ ])))
 
-module _ {p : ℕ} (prime : Prime p) {G : spec.Poly} {m : ℕ} {part : spec.Poly} (over : PartOver p G m part) where
+module _ {p : ℕ} (prime : Prime p) {G g : spec.Poly} {m : ℕ} {part : spec.Poly} (over : PartOver p G m part) (lift : LiftOf p G g) where
   abbrev large : 1 < p
   large = prime .large
 
@@ -92,19 +89,19 @@ module _ {p : ℕ} (prime : Prime p) {G : spec.Poly} {m : ℕ} {part : spec.Poly
   𝓑 = PolyRing (Residues p)
 
   -- s factors, z different ones: no list has more, and no list of s has fewer different ones
-  module _ (s z : ℕ) (one : 1 ≤ s) (room : s ≤ m) (divides : PowerDivides large over (s - 1)) (longest : (m ≤ s) ⊎ ¬ PowerDivides large over s)
-      (fewest : (z ≤ 1) ⊎ ((z ≤ 2) × Split (extension p large) (poly (p *ℕ p) G) (h large over) m s)) where
+  module _ (s z : ℕ) (one : 1 ≤ s) (room : s ≤ m) (divides : PowerDivides large over lift (s - 1)) (longest : (m ≤ s) ⊎ ¬ PowerDivides large over lift s)
+      (fewest : (z ≤ 1) ⊎ ((z ≤ 2) × Split (extension p large) (poly (p *ℕ p) g) (h large over lift) m s)) where
     abbrev ring-part : Part (extension p large)
     ring-part = record {
-      g = poly (p *ℕ p) G;
-      prime = rw (bar-poly p large G) (prime-poly prime (over .irreducible));
+      g = poly (p *ℕ p) g;
+      prime = rw (lift-over p large lift) (prime-poly prime (over .irreducible));
       m = m;
       P = poly (p *ℕ p) part;
-      h = h large over;
-      shape = shape large over;
+      h = h large over lift;
+      shape = shape large over lift;
       s = s;
       one = one;
-      longest = rw (bar-poly p large G, bar-h large over) longest;
+      longest = rw (lift-over p large lift, bar-h large over lift) longest;
       z = z;
       few = fewest;
     }
@@ -119,13 +116,14 @@ module _ {p : ℕ} (prime : Prime p) {G : spec.Poly} {m : ℕ} {part : spec.Poly
       degree-sum = sum;
       not-lower = none-lower G m qs shape sum (omega (arith, count, room)) repeated;
       ring = ring-part;
-      g-is = refl;
+      g-monic = monic-poly (lift .monic);
+      g-bar = lift-over p large lift;
       m-is = refl;
       P-is = refl;
       s-is = sym (length-members qs ∙ count);
       z-is = sym kinds;
       room = room;
-      divides = rw (bar-h large over) divides;
+      divides = rw (bar-h large over lift) divides;
     }
       where
         sum : degrees qs ≡ m *ℕ spec.degree G
@@ -134,7 +132,7 @@ module _ {p : ℕ} (prime : Prime p) {G : spec.Poly} {m : ℕ} {part : spec.Poly
             (rw (poly-members (square-large p large) qs, law) (monic-poly (over .monic)))
 
   -- q, t times
-  pub one-factor : (q : spec.Poly) (t : ℕ) → claims.Monic (p *ℕ p) q → 1 ≤ t → t ≤ m → PowerDivides large over (t - 1) → (m ≤ t) ⊎ ¬ PowerDivides large over t
+  pub one-factor : (q : spec.Poly) (t : ℕ) → claims.Monic (p *ℕ p) q → 1 ≤ t → t ≤ m → PowerDivides large over lift (t - 1) → (m ≤ t) ⊎ ¬ PowerDivides large over lift t
       → pow 𝓐 (poly (p *ℕ p) q) t ≡ poly (p *ℕ p) part → SplitPart p large G m part (factor q t ∷ [])
   one-factor q t monic l room divides longest law =
       split-from t 1 l room divides longest (inl (omega arith)) (factor q t ∷ []) (all-cons monic (λ r i. elim i [ ])) (all-cons l (λ r i. elim i [ ]))
@@ -144,12 +142,12 @@ module _ {p : ℕ} (prime : Prime p) {G : spec.Poly} {m : ℕ} {part : spec.Poly
 
   -- q, t times, then r once
   pub two-factors : (q r : spec.Poly) (t : ℕ) → claims.Monic (p *ℕ p) q → claims.Monic (p *ℕ p) r → 1 ≤ t → spec.degree q ≡ spec.degree G
-      → suc t ≤ m → PowerDivides large over t
-      → ¬ PowerDivides large over (suc t) → (suc t ≡ m → number 𝓑 m ≡ 𝟎) → pow 𝓐 (poly (p *ℕ p) q) t · poly (p *ℕ p) r ≡ poly (p *ℕ p) part
+      → suc t ≤ m → PowerDivides large over lift t
+      → ¬ PowerDivides large over lift (suc t) → (suc t ≡ m → number 𝓑 m ≡ 𝟎) → pow 𝓐 (poly (p *ℕ p) q) t · poly (p *ℕ p) r ≡ poly (p *ℕ p) part
       → SplitPart p large G m part (factor q t ∷ factor r 1 ∷ [])
   two-factors q r t monicq monicr l degree room divides exact null law =
-      split-from (suc t) 2 (omega arith) room (subst (PowerDivides large over) (let s : t ≡ suc t - 1 = omega arith in s) divides) (inr exact)
-      (inr (omega arith, record { two = omega arith; exact = rw (bar-poly p large G, bar-h large over) exact; null = null }))
+      split-from (suc t) 2 (omega arith) room (subst (PowerDivides large over lift) (let s : t ≡ suc t - 1 = omega arith in s) divides) (inr exact)
+      (inr (omega arith, record { two = omega arith; exact = rw (lift-over p large lift, bar-h large over lift) exact; null = null }))
       (factor q t ∷ factor r 1 ∷ [])
       (all-cons monicq (all-cons monicr (λ a i. elim i [ ]))) (all-cons l (all-cons (omega arith) (λ a i. elim i [ ])))
       (product-cons 𝓐 (pow 𝓐 (poly (p *ℕ p) q) t) _

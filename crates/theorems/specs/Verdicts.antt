@@ -1,4 +1,4 @@
--- Items 4 to 9: the specification's splitting of a part over G to the m.
+-- Items 4 to 9: the specification's splitting of a part over G to the m, for any monic g modulo p² with bar G.
 -- Proves that the factors of each verdict split the part; the cases stand in the document's order. Assumes nothing.
 use mathlib.Core.Path.{_≡_, refl, sym, _∙_, ap, ap₂, subst}
 use mathlib.Core.Bool.{not, _&&_}
@@ -28,16 +28,16 @@ use Rattle.algebra.specs.ListShapes.{length-scale, low-reduce}
 use Rattle.algebra.specs.ListDivision.{poly-isZero, isZero-poly}
 use Rattle.factorisation.specs.ExtensionLaws.{number, bar-mul, bar-mul-pow, bar-pow, bar-number, π-equal, binomial}
 use Rattle.theorems.specs.MonicLists.{to-claims}
-use Rattle.theorems.specs.Reductions.{barred, bar-poly, digits-monic}
+use Rattle.theorems.specs.Reductions.{LiftOf, barred, bar-poly, lift-over}
 use Rattle.theorems.specs.Units.{number-multiple, number-divided}
 use Rattle.theorems.specs.ListExtension.{extension, lift-is, lift-list-monic}
-use Rattle.theorems.specs.PartForm.{PartOver, PowerDivides, HighestPower, base-monic, power-monic, shape, bar-h, highest-power}
+use Rattle.theorems.specs.PartForm.{PartOver, PowerDivides, HighestPower, power-monic, shape, bar-h, highest-power}
 use Rattle.theorems.specs.SplitPart.{SplitPart, one-factor, two-factors}
 
 eqb-equal : {a b : ℕ} → a ≡ b → T (eqb a b)
 eqb-equal {a} e = subst (λ (c : ℕ). T (eqb a c)) e (eqb-refl a)
 
-module _ {p : ℕ} (prime : Prime p) {G : spec.Poly} {m : ℕ} {part : spec.Poly} (over : PartOver p G m part) where
+module _ {p : ℕ} (prime : Prime p) {G g : spec.Poly} {m : ℕ} {part : spec.Poly} (over : PartOver p G m part) (lift : LiftOf p G g) where
   abbrev 𝓐 : CommRing (ℤ[x]/ (p *ℕ p))
   𝓐 = PolyRing (Residues (p *ℕ p))
 
@@ -47,115 +47,116 @@ module _ {p : ℕ} (prime : Prime p) {G : spec.Poly} {m : ℕ} {part : spec.Poly
   abbrev large : 1 < p
   large = prime .large
 
-  abbrev g : ℤ[x]/ (p *ℕ p)
-  g = poly (p *ℕ p) G
+  -- g as a polynomial
+  abbrev γ : ℤ[x]/ (p *ℕ p)
+  γ = poly (p *ℕ p) g
 
   -- m1
   abbrev k : ℕ
-  k = m1 p G m part
+  k = m1 p G g m part
 
   -- p·h depends on h bar alone
-  shape-by : (a : ℤ[x]/ (p *ℕ p)) → barred p large a ≡ poly p (hBar p G m part) → pow 𝓐 g m + extension p large .π · a ≡ poly (p *ℕ p) part
-  shape-by a e = ap (λ b. pow 𝓐 g m + b) (π-equal (extension p large) (e ∙ sym (bar-h large over))) ∙ sym (shape large over)
+  shape-by : (a : ℤ[x]/ (p *ℕ p)) → barred p large a ≡ poly p (hBar p g m part) → pow 𝓐 γ m + extension p large .π · a ≡ poly (p *ℕ p) part
+  shape-by a e = ap (λ b. pow 𝓐 γ m + b) (π-equal (extension p large) (e ∙ sym (bar-h large over lift))) ∙ sym (shape large over lift)
 
   -- G^0 divides h bar
-  any-power : PowerDivides large over 0
-  any-power = rw (pow-zero 𝓑 (poly p G)) (one-divides 𝓑 (poly p (hBar p G m part)))
+  any-power : PowerDivides large over lift 0
+  any-power = rw (pow-zero 𝓑 (poly p G)) (one-divides 𝓑 (poly p (hBar p g m part)))
 
   -- items 4 and 7: "The factor is the part itself"
-  part-itself : (m ≤ 1) ⊎ ¬ PowerDivides large over 1 → SplitPart p large G m part (factor part 1 ∷ [])
+  part-itself : (m ≤ 1) ⊎ ¬ PowerDivides large over lift 1 → SplitPart p large G m part (factor part 1 ∷ [])
   part-itself longest =
-      one-factor prime over part 1 (to-claims (mul-pos (over .positive) (over .irreducible .monic .positive)) (over .monic)) (omega arith)
+      one-factor prime over lift part 1 (to-claims (mul-pos (over .positive) (over .irreducible .monic .positive)) (over .monic)) (omega arith)
       (over .positive) any-power longest (pow-one 𝓐 (poly (p *ℕ p) part))
 
   -- item 6: "The factor is g, m times"
-  g-repeated : poly p (hBar p G m part) ≡ 𝟎 → SplitPart p large G m part (factor G m ∷ [])
+  g-repeated : poly p (hBar p g m part) ≡ 𝟎 → SplitPart p large G m part (factor g m ∷ [])
   g-repeated e =
-      one-factor prime over G m (to-claims (over .irreducible .monic .positive) (digits-monic p large (base-monic large over))) (over .positive)
+      one-factor prime over lift g m (to-claims (over .irreducible .monic .positive) (lift .monic)) (over .positive)
       (omega arith) (rw e (divides-zero 𝓑 (pow 𝓑 (poly p G) (m - 1)))) (inl (omega arith))
-      (sym (ap (λ a. pow 𝓐 g m + a) (mul-zero 𝓐 (extension p large .π)) ∙ add-zero 𝓐 (pow 𝓐 g m))
+      (sym (ap (λ a. pow 𝓐 γ m + a) (mul-zero 𝓐 (extension p large .π)) ∙ add-zero 𝓐 (pow 𝓐 γ m))
       ∙ shape-by 𝟎 (keeps-zero (extension p large .hom) ∙ sym e))
 
-  module _ (H : HighestPower large over) where
-    below-top : PowerDivides large over k
-    below-top = (poly p (w p G m part), H .law)
+  module _ (H : HighestPower large over lift) where
+    below-top : PowerDivides large over lift k
+    below-top = (poly p (w p G g m part), H .law)
 
     -- item 8: "the factor is g + p·u, m times"
-    lift-repeated : m % p ≢ 0 → suc k ≡ m → SplitPart p large G m part (factor (spec.lift p G (u p G m part)) m ∷ [])
+    lift-repeated : m % p ≢ 0 → suc k ≡ m → SplitPart p large G m part (factor (spec.lift p g (u p G g m part)) m ∷ [])
     lift-repeated unit last =
-        one-factor prime over (spec.lift p G v) m
+        one-factor prime over lift (spec.lift p g v) m
         (to-claims (over .irreducible .monic .positive)
-        (lift-list-monic p large (digits-monic p large (base-monic large over)) v (omega (arith, length-v, H .length-w, rest)) below-v))
-        (over .positive) (omega arith) (subst (PowerDivides large over) (omega arith) below-top) (inl (omega arith))
-        (ap₂ (pow 𝓐) (lift-is p large G v) (sym last) ∙ binomial (extension p large) k g (poly (p *ℕ p) v)
-        ∙ ap (λ (j : ℕ). pow 𝓐 g j + extension p large .π · (number 𝓐 j · (pow 𝓐 g k · poly (p *ℕ p) v))) last
-        ∙ shape-by (number 𝓐 m · (pow 𝓐 g k · poly (p *ℕ p) v)) bars)
+        (lift-list-monic p large (lift .monic) v (omega (arith, length-v, H .length-w, rest)) below-v))
+        (over .positive) (omega arith) (subst (PowerDivides large over lift) (omega arith) below-top) (inl (omega arith))
+        (ap₂ (pow 𝓐) (lift-is p large g v) (sym last) ∙ binomial (extension p large) k γ (poly (p *ℕ p) v)
+        ∙ ap (λ (j : ℕ). pow 𝓐 γ j + extension p large .π · (number 𝓐 j · (pow 𝓐 γ k · poly (p *ℕ p) v))) last
+        ∙ shape-by (number 𝓐 m · (pow 𝓐 γ k · poly (p *ℕ p) v)) bars)
       where
         v : spec.Poly
-        v = u p G m part
+        v = u p G g m part
 
         rest : (m - k) *ℕ spec.degree G ≡ spec.degree G
         rest = ap (λ (j : ℕ). j *ℕ spec.degree G) (let s : m - k ≡ 1 = omega arith in s) ∙ one-mul (spec.degree G)
 
-        length-v : length v ≡ length (w p G m part)
-        length-v = unfold u in length-scale p (inverse p m) (w p G m part)
+        length-v : length v ≡ length (w p G g m part)
+        length-v = unfold u in length-scale p (inverse p m) (w p G g m part)
 
-        poly-v : poly p v ≡ constant (residue p (inverse p m)) · poly p (w p G m part)
-        poly-v = unfold u in poly-scale p (prime-pos prime) (inverse p m) (w p G m part)
+        poly-v : poly p v ≡ constant (residue p (inverse p m)) · poly p (w p G g m part)
+        poly-v = unfold u in poly-scale p (prime-pos prime) (inverse p m) (w p G g m part)
 
         below-v : Below (spec.degree G) (poly p v)
         below-v =
-            rw poly-v (below-constant-mul (residue p (inverse p m)) (subst (λ (j : ℕ). Below j (poly p (w p G m part))) rest (H .below)))
+            rw poly-v (below-constant-mul (residue p (inverse p m)) (subst (λ (j : ℕ). Below j (poly p (w p G g m part))) rest (H .below)))
 
-        divided : number 𝓑 m · poly p v ≡ poly p (w p G m part)
-        divided = unfold u in number-divided p prime m unit (w p G m part)
+        divided : number 𝓑 m · poly p v ≡ poly p (w p G g m part)
+        divided = unfold u in number-divided p prime m unit (w p G g m part)
 
-        bars : barred p large (number 𝓐 m · (pow 𝓐 g k · poly (p *ℕ p) v)) ≡ poly p (hBar p G m part)
+        bars : barred p large (number 𝓐 m · (pow 𝓐 γ k · poly (p *ℕ p) v)) ≡ poly p (hBar p g m part)
         bars =
-            bar-mul (extension p large) (number 𝓐 m) (pow 𝓐 g k · poly (p *ℕ p) v)
+            bar-mul (extension p large) (number 𝓐 m) (pow 𝓐 γ k · poly (p *ℕ p) v)
             ∙ ap₂ _·_ (bar-number (extension p large) m)
-            (bar-mul (extension p large) (pow 𝓐 g k) (poly (p *ℕ p) v)
-            ∙ ap₂ _·_ (bar-pow (extension p large) g k ∙ ap (λ a. pow 𝓑 a k) (bar-poly p large G)) (bar-poly p large v))
+            (bar-mul (extension p large) (pow 𝓐 γ k) (poly (p *ℕ p) v)
+            ∙ ap₂ _·_ (bar-pow (extension p large) γ k ∙ ap (λ a. pow 𝓑 a k) (lift-over p large lift)) (bar-poly p large v))
             ∙ solve 𝓑 3 (λ n x v. n ⊗ (x ⊗ v) ≈ n ⊗ v ⊗ x) tt (number 𝓑 m) (pow 𝓑 (poly p G) k) (poly p v)
             ∙ ap (λ a. a · pow 𝓑 (poly p G) k) divided ∙ H .law
 
     -- item 9: "The factors are g, m1 times, then g^(m − m1) + p·w once"
     g-and-last : 1 ≤ k → (suc k ≡ m → m % p ≡ 0)
-        → SplitPart p large G m part (factor G k ∷ factor (spec.lift p (spec.pow (p *ℕ p) G (m - k)) (w p G m part)) 1 ∷ [])
+        → SplitPart p large G m part (factor g k ∷ factor (spec.lift p (spec.pow (p *ℕ p) g (m - k)) (w p G g m part)) 1 ∷ [])
     g-and-last positive null =
-        two-factors prime over G (spec.lift p q v) k
-        (to-claims (over .irreducible .monic .positive) (digits-monic p large (base-monic large over)))
+        two-factors prime over lift g (spec.lift p q v) k
+        (to-claims (over .irreducible .monic .positive) (lift .monic))
         (to-claims (mul-pos (let l : 0 < m - k = omega (arith, H .less) in l) (over .irreducible .monic .positive))
-        (lift-list-monic p large (power-monic large over (m - k)) v (omega (arith, H .length-w)) (H .below)))
-        positive refl (H .less) below-top
+        (lift-list-monic p large (power-monic large over lift (m - k)) v (omega (arith, H .length-w)) (H .below)))
+        positive (omega (arith, lift .monic .reduced .len)) (H .less) below-top
         (H .exact) (λ e. number-multiple p (prime-pos prime) m (null e))
-        (ap (λ a. pow 𝓐 g k · a)
-        (lift-is p large q v ∙ ap (λ a. a + extension p large .π · poly (p *ℕ p) v) (poly-pow (p *ℕ p) (omega (arith, square-large p large)) G (m - k)))
-        ∙ solve 𝓐 4 (λ x y π v. x ⊗ (y ⊕ π ⊗ v) ≈ x ⊗ y ⊕ π ⊗ (v ⊗ x)) tt (pow 𝓐 g k) (pow 𝓐 g (m - k)) (extension p large .π) (poly (p *ℕ p) v)
-        ∙ ap (λ a. a + extension p large .π · (poly (p *ℕ p) v · pow 𝓐 g k))
-        (sym (pow-add 𝓐 g k (m - k)) ∙ ap (pow 𝓐 g) (let s : k +ℕ (m - k) ≡ m = omega (arith, H .less) in s))
-        ∙ shape-by (poly (p *ℕ p) v · pow 𝓐 g k) bars)
+        (ap (λ a. pow 𝓐 γ k · a)
+        (lift-is p large q v ∙ ap (λ a. a + extension p large .π · poly (p *ℕ p) v) (poly-pow (p *ℕ p) (omega (arith, square-large p large)) g (m - k)))
+        ∙ solve 𝓐 4 (λ x y π v. x ⊗ (y ⊕ π ⊗ v) ≈ x ⊗ y ⊕ π ⊗ (v ⊗ x)) tt (pow 𝓐 γ k) (pow 𝓐 γ (m - k)) (extension p large .π) (poly (p *ℕ p) v)
+        ∙ ap (λ a. a + extension p large .π · (poly (p *ℕ p) v · pow 𝓐 γ k))
+        (sym (pow-add 𝓐 γ k (m - k)) ∙ ap (pow 𝓐 γ) (let s : k +ℕ (m - k) ≡ m = omega (arith, H .less) in s))
+        ∙ shape-by (poly (p *ℕ p) v · pow 𝓐 γ k) bars)
       where
         q : spec.Poly
-        q = spec.pow (p *ℕ p) G (m - k)
+        q = spec.pow (p *ℕ p) g (m - k)
 
         v : spec.Poly
-        v = w p G m part
+        v = w p G g m part
 
-        bars : barred p large (poly (p *ℕ p) v · pow 𝓐 g k) ≡ poly p (hBar p G m part)
+        bars : barred p large (poly (p *ℕ p) v · pow 𝓐 γ k) ≡ poly p (hBar p g m part)
         bars =
-            bar-mul-pow (extension p large) (poly (p *ℕ p) v) g k
-            ∙ ap₂ (λ a b. a · pow 𝓑 b k) (bar-poly p large v) (bar-poly p large G) ∙ H .law
+            bar-mul-pow (extension p large) (poly (p *ℕ p) v) γ k
+            ∙ ap₂ (λ a b. a · pow 𝓑 b k) (bar-poly p large v) (lift-over p large lift) ∙ H .law
 
   -- the tests in order
-  pub part-splits : SplitPart p (prime .large) G m part (splitting p G m part .factors)
+  pub part-splits : SplitPart p (prime .large) G m part (splitting p G g m part .factors)
   unfolding splitting
   part-splits =
       -- item 4
       picked Splits (eqb m 1) (λ t. part-itself (inl (omega (arith, eqb→eq m 1 t))))
       -- item 6
-      (λ not4. picked Splits (spec.isZero (hBar p G m part)) (λ t. g-repeated (poly-isZero p (hBar p G m part) t))
-      (λ not6. let H : HighestPower large over = highest-power large over (λ e. T-not (spec.isZero (hBar p G m part)) not6 (is-zero e)) in
+      (λ not4. picked Splits (spec.isZero (hBar p g m part)) (λ t. g-repeated (poly-isZero p (hBar p g m part) t))
+      (λ not6. let H : HighestPower large over lift = highest-power large over lift (λ e. T-not (spec.isZero (hBar p g m part)) not6 (is-zero e)) in
       -- item 7
       picked Splits (eqb k 0) (λ t. part-itself (inr (solid H (eqb→eq k 0 t))))
       -- item 8
@@ -167,8 +168,8 @@ module _ {p : ℕ} (prime : Prime p) {G : spec.Poly} {m : ℕ} {part : spec.Poly
       Splits : Splitting → Type 0
       Splits S = SplitPart p large G m part (S .factors)
 
-      is-zero : poly p (hBar p G m part) ≡ 𝟎 → T (spec.isZero (hBar p G m part))
-      is-zero = isZero-poly p (prime-pos prime) (hBar p G m part) (unfold hBar in low-reduce p (prime-pos prime) _)
+      is-zero : poly p (hBar p g m part) ≡ 𝟎 → T (spec.isZero (hBar p g m part))
+      is-zero = isZero-poly p (prime-pos prime) (hBar p g m part) (unfold hBar in low-reduce p (prime-pos prime) _)
 
       read : T (not (eqb (m % p) 0) && eqb k (m - 1)) → (m % p ≢ 0) × (k ≡ m - 1)
       read t = (
@@ -185,5 +186,5 @@ module _ {p : ℕ} (prime : Prime p) {G : spec.Poly} {m : ℕ} {part : spec.Poly
               absurd (T-not (not (eqb (m % p) 0) && eqb k (m - 1)) not8
               (both (not (eqb (m % p) 0)) (eqb k (m - 1)) (not-T (eqb (m % p) 0) (λ t. n (eqb→eq (m % p) 0 t))) (eqb-equal e)))
 
-      solid : HighestPower large over → k ≡ 0 → ¬ PowerDivides large over 1
-      solid H e = subst (λ (j : ℕ). ¬ PowerDivides large over (suc j)) e (H .exact)
+      solid : HighestPower large over lift → k ≡ 0 → ¬ PowerDivides large over lift 1
+      solid H e = subst (λ (j : ℕ). ¬ PowerDivides large over lift (suc j)) e (H .exact)

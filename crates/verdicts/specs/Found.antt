@@ -16,19 +16,22 @@ use Rattle.factorisation.specs.Multiplicity.{Multiplicity, power-divides, power
 use Rattle.factorisation.specs.MonicDivisors.{monic-cancel-eq}
 use Rattle.theorems.specs.MonicLists.{monic-poly}
 use Rattle.theorems.specs.PartForm.{HighestPower, highest-power, below-h}
-use Rattle.verdicts.specs.Given.{listed, Given, large, base-degree, base-poly, base-list}
+use Rattle.verdicts.specs.Given.{listed, held-poly, Given, large, base-degree, base-list}
 use Rattle.verdicts.specs.Cofactors.{HighestIn}
 
 -- k is m1 and the array w is w
-pub record Found (p : ℕ) (base : List ℕ) (d m : ℕ) (part : List ℕ) (k : ℕ) (w : List ℕ) : Type 0 where
-  pub exponent : k ≡ parts.m1 p (listed d base) m (listed (m *ℕ d) part)
+pub record Found (p : ℕ) (base g : List ℕ) (d m : ℕ) (part : List ℕ) (k : ℕ) (w : List ℕ) : Type 0 where
+  pub exponent : k ≡ parts.m1 p (listed d base) (listed d g) m (listed (m *ℕ d) part)
   pub reduced : Reduced p 33 w
-  pub is : poly p w ≡ poly p (parts.w p (listed d base) m (listed (m *ℕ d) part))
+  pub is : poly p w ≡ poly p (parts.w p (listed d base) (listed d g) m (listed (m *ℕ d) part))
   pub below : Below ((m - k) *ℕ d) (poly p w)
 
-module _ {p : ℕ} {base : List ℕ} {d m : ℕ} {part : List ℕ} (given : Given p base d m part) where
+module _ {p : ℕ} {base g : List ℕ} {d m : ℕ} {part : List ℕ} (given : Given p base g d m part) where
   abbrev G : List ℕ
   G = listed d base
+
+  abbrev γ : List ℕ
+  γ = listed d g
 
   abbrev Q : List ℕ
   Q = listed (m *ℕ d) part
@@ -36,37 +39,37 @@ module _ {p : ℕ} {base : List ℕ} {d m : ℕ} {part : List ℕ} (given : Give
   monic : Monic d (poly p G)
   monic = monic-poly (base-list given)
 
-  module _ (h : List ℕ) (is : poly p h ≡ poly p (parts.hBar p G m Q)) where
+  module _ (h : List ℕ) (is : poly p h ≡ poly p (parts.hBar p γ m Q)) where
     pub h-below : Below (m *ℕ d) (poly p h)
-    h-below = rw is (subst (λ (e : ℕ). Below (m *ℕ e) (poly p (parts.hBar p G m Q))) (base-degree given) (below-h (large given) (given .over)))
+    h-below = rw is (subst (λ (e : ℕ). Below (m *ℕ e) (poly p (parts.hBar p γ m Q))) (base-degree given) (below-h (large given) (given .over) (given .lift)))
 
-    pub highest-in : poly p h ≢ 𝟎 → HighestPower (large given) (given .over)
-    highest-in nonzero = highest-power (large given) (given .over) (λ e. nonzero (is ∙ e))
+    pub highest-in : poly p h ≢ 𝟎 → HighestPower (large given) (given .over) (given .lift)
+    highest-in nonzero = highest-power (large given) (given .over) (given .lift) (λ e. nonzero (is ∙ e))
 
-    pub found : poly p h ≢ 𝟎 → {k : ℕ} {w : List ℕ} → HighestIn p h base k w → Found p base d m part k w
+    pub found : poly p h ≢ 𝟎 → {k : ℕ} {w : List ℕ} → HighestIn p h base k w → Found p base g d m part k w
     found nonzero {k} {w} top = record { exponent = same; reduced = top .cofactor .reduced; is = cofactor; below = below }
       where
-        H : HighestPower (large given) (given .over)
+        H : HighestPower (large given) (given .over) (given .lift)
         H = highest-in nonzero
 
-        M : Multiplicity (PolyRing (Residues p)) (poly p G) (poly p (parts.hBar p G m Q))
+        M : Multiplicity (PolyRing (Residues p)) (poly p G) (poly p (parts.hBar p γ m Q))
         M = record {
           k = k;
           w = poly p w;
-          law = ap (λ a. poly p w · pow (PolyRing (Residues p)) a k) (base-poly given p) ∙ top .cofactor .law ∙ is;
-          stop = subst (λ a. ¬ _∣_ (PolyRing (Residues p)) a (poly p w)) (sym (base-poly given p)) (top .stop);
+          law = ap (λ a. poly p w · pow (PolyRing (Residues p)) a k) (held-poly (given .base-held)) ∙ top .cofactor .law ∙ is;
+          stop = subst (λ a. ¬ _∣_ (PolyRing (Residues p)) a (poly p w)) (sym (held-poly (given .base-held))) (top .stop);
         }
 
-        same : k ≡ parts.m1 p G m Q
+        same : k ≡ parts.m1 p G γ m Q
         same =
             le-antisymm
-            (⊎-elim (λ l. absurd (H .exact (power-divides M l))) (λ l. l) (lt-or-le (parts.m1 p G m Q) k))
-            (power-bound (monic-cancel monic) M (poly p (parts.w p G m Q), H .law))
+            (⊎-elim (λ l. absurd (H .exact (power-divides M l))) (λ l. l) (lt-or-le (parts.m1 p G γ m Q) k))
+            (power-bound (monic-cancel monic) M (poly p (parts.w p G γ m Q), H .law))
 
-        cofactor : poly p w ≡ poly p (parts.w p G m Q)
+        cofactor : poly p w ≡ poly p (parts.w p G γ m Q)
         cofactor =
             monic-cancel-eq (monic-pow monic k)
-            (M .law ∙ sym (H .law) ∙ ap (λ (j : ℕ). poly p (parts.w p G m Q) · pow (PolyRing (Residues p)) (poly p G) j) (sym same))
+            (M .law ∙ sym (H .law) ∙ ap (λ (j : ℕ). poly p (parts.w p G γ m Q) · pow (PolyRing (Residues p)) (poly p G) j) (sym same))
 
         below : Below ((m - k) *ℕ d) (poly p w)
-        below = rw (cofactor, same) (subst (λ (e : ℕ). Below ((m - parts.m1 p G m Q) *ℕ e) (poly p (parts.w p G m Q))) (base-degree given) (H .below))
+        below = rw (cofactor, same) (subst (λ (e : ℕ). Below ((m - parts.m1 p G γ m Q) *ℕ e) (poly p (parts.w p G γ m Q))) (base-degree given) (H .below))

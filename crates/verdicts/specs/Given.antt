@@ -1,5 +1,5 @@
--- What a part is given as: G and the part in arrays, with their degrees. `Given` is what the functions on a part ask for.
--- Proves that the arrays hold the polynomials of their lists, and that that of G is monic modulo p and modulo p². Assumes nothing.
+-- What a part is given as: G modulo p, g modulo p² and the part in arrays, with their degrees. `Given` is what the functions on a part ask for.
+-- Proves that the arrays hold the polynomials of their lists, and that those of G and g are monic. Assumes nothing.
 use mathlib.Core.Path.{_≡_, subst}
 use mathlib.Core.Bool.{true}
 use mathlib.Core.List.{List}
@@ -14,10 +14,9 @@ use Rattle.algebra.specs.Degree.{Below, Monic}
 use Rattle.algebra.specs.CoefficientLists.{poly, Reduced}
 use Rattle.algebra.specs.ListDivision.{poly-take}
 use Rattle.theorems.specs.MonicLists.{MonicList, monic-poly}
-use Rattle.theorems.specs.Reductions.{digits-monic}
+use Rattle.theorems.specs.Reductions.{LiftOf}
 use Rattle.theorems.specs.PartForm.{PartOver, base-monic}
 use Rattle.verdicts.specs.Degrees.{base-room}
-use Rattle.modular.specs.Arrays.{below-modulo}
 
 -- the list of an array of degree d
 abbrev pub listed : ℕ → List ℕ → List ℕ
@@ -28,15 +27,21 @@ pub record Held (n d : ℕ) (a : List ℕ) : Type 0 where
   pub reduced : Reduced n 33 a
   pub below : Below (suc d) (poly n a)
 
--- items 1 and 2: a part modulo p² over G to the m, where G is of degree d
-pub record Given (p : ℕ) (base : List ℕ) (d m : ℕ) (part : List ℕ) : Type 0 where
+-- its list has its polynomial
+pub held-poly : {n d : ℕ} {a : List ℕ} → Held n d a → poly n (listed d a) ≡ poly n a
+held-poly {n} {d} {a} h = poly-take n (suc d) a (h .below)
+
+-- items 1 and 2: a part modulo p² over G to the m, where G is of degree d; and a g modulo p² with bar G
+pub record Given (p : ℕ) (base g : List ℕ) (d m : ℕ) (part : List ℕ) : Type 0 where
   pub prime : taken p ≡ true
   pub room : m *ℕ d ≤ 32
   pub base-held : Held p d base
+  pub g-held : Held (p *ℕ p) d g
   pub part-held : Held (p *ℕ p) (m *ℕ d) part
   pub over : PartOver p (listed d base) m (listed (m *ℕ d) part)
+  pub lift : LiftOf p (listed d base) (listed d g)
 
-module _ {p : ℕ} {base : List ℕ} {d m : ℕ} {part : List ℕ} (given : Given p base d m part) where
+module _ {p : ℕ} {base g : List ℕ} {d m : ℕ} {part : List ℕ} (given : Given p base g d m part) where
   pub large : 1 < p
   large = is-prime (given .prime) .large
 
@@ -47,18 +52,14 @@ module _ {p : ℕ} {base : List ℕ} {d m : ℕ} {part : List ℕ} (given : Give
   pub base-degree : spec.degree (listed d base) ≡ d
   base-degree = omega (arith, length-take-le (suc d) base (omega (arith, given .base-held .reduced .len, degree-room)))
 
-  -- modulo p, and "with the same coefficients 0 to p − 1 read modulo p²"
-  pub base-poly : (n : ℕ) → poly n (listed d base) ≡ poly n base
-  base-poly n = poly-take n (suc d) base (below-modulo n (given .base-held .reduced) (given .base-held .below))
-
-  pub part-poly : poly (p *ℕ p) (listed (m *ℕ d) part) ≡ poly (p *ℕ p) part
-  part-poly = poly-take (p *ℕ p) (suc (m *ℕ d)) part (given .part-held .below)
-
   pub base-list : MonicList p d (listed d base)
   base-list = subst (λ (e : ℕ). MonicList p e (listed d base)) base-degree (base-monic large (given .over))
 
   pub base-is-monic : Monic d (poly p base)
-  base-is-monic = subst (Monic d) (base-poly p) (monic-poly base-list)
+  base-is-monic = subst (Monic d) (held-poly (given .base-held)) (monic-poly base-list)
 
-  pub g-is-monic : Monic d (poly (p *ℕ p) base)
-  g-is-monic = subst (Monic d) (base-poly (p *ℕ p)) (monic-poly (digits-monic p large base-list))
+  pub g-list : MonicList (p *ℕ p) d (listed d g)
+  g-list = subst (λ (e : ℕ). MonicList (p *ℕ p) e (listed d g)) base-degree (given .lift .monic)
+
+  pub g-is-monic : Monic d (poly (p *ℕ p) g)
+  g-is-monic = subst (Monic d) (held-poly (given .g-held)) (monic-poly g-list)

@@ -16,30 +16,30 @@ last-power p m k t =
     let (unit, last) = and-eq-true-iff (not (eqb (m % p) 0)) (eqb k (m - 1)) .0 t in
     (eqb-false (m % p) 0 (not-true (eqb (m % p) 0) unit), eqb-true k (m - 1) last)
 
-module _ (p : ℕ) (G : List ℕ) (m : ℕ) (part : List ℕ) where
-  pub item-4 : m ≡ 1 → splitting p G m part ≡ splitInto basic (factor part 1 ∷ [])
+module _ (p : ℕ) (G g : List ℕ) (m : ℕ) (part : List ℕ) where
+  pub item-4 : m ≡ 1 → splitting p G g m part ≡ splitInto basic (factor part 1 ∷ [])
   unfolding splitting
   item-4 e = rw (eq-eqb m 1 e)
 
   module _ (repeated : m ≢ 1) where
-    pub item-6 : isZero (hBar p G m part) ≡ true → splitting p G m part ≡ splitInto power (factor G m ∷ [])
+    pub item-6 : isZero (hBar p g m part) ≡ true → splitting p G g m part ≡ splitInto power (factor g m ∷ [])
     unfolding splitting
     item-6 z = rw (ne-eqb m 1 repeated, z)
 
-    module _ (nonzero : isZero (hBar p G m part) ≡ false) where
-      pub item-7 : m1 p G m part ≡ 0 → splitting p G m part ≡ splitInto solid (factor part 1 ∷ [])
+    module _ (nonzero : isZero (hBar p g m part) ≡ false) where
+      pub item-7 : m1 p G g m part ≡ 0 → splitting p G g m part ≡ splitInto solid (factor part 1 ∷ [])
       unfolding splitting
-      item-7 e = rw (ne-eqb m 1 repeated, nonzero, eq-eqb (m1 p G m part) 0 e)
+      item-7 e = rw (ne-eqb m 1 repeated, nonzero, eq-eqb (m1 p G g m part) 0 e)
 
-      module _ (divides : m1 p G m part ≢ 0) where
-        pub item-8 : (not (eqb (m % p) 0) && eqb (m1 p G m part) (m - 1)) ≡ true
-            → splitting p G m part ≡ splitInto power (factor (lift p G (u p G m part)) m ∷ [])
+      module _ (divides : m1 p G g m part ≢ 0) where
+        pub item-8 : (not (eqb (m % p) 0) && eqb (m1 p G g m part) (m - 1)) ≡ true
+            → splitting p G g m part ≡ splitInto power (factor (lift p g (u p G g m part)) m ∷ [])
         unfolding splitting
-        item-8 t = rw (ne-eqb m 1 repeated, nonzero, ne-eqb (m1 p G m part) 0 divides, t)
+        item-8 t = rw (ne-eqb m 1 repeated, nonzero, ne-eqb (m1 p G g m part) 0 divides, t)
 
-        pub item-9 : (not (eqb (m % p) 0) && eqb (m1 p G m part) (m - 1)) ≡ false
-            → splitting p G m part
-            ≡ splitInto (split (m1 p G m part))
-            (factor G (m1 p G m part) ∷ factor (lift p (pow (p * p) G (m - m1 p G m part)) (w p G m part)) 1 ∷ [])
+        pub item-9 : (not (eqb (m % p) 0) && eqb (m1 p G g m part) (m - 1)) ≡ false
+            → splitting p G g m part
+            ≡ splitInto (split (m1 p G g m part))
+            (factor g (m1 p G g m part) ∷ factor (lift p (pow (p * p) g (m - m1 p G g m part)) (w p G g m part)) 1 ∷ [])
         unfolding splitting
-        item-9 t = rw (ne-eqb m 1 repeated, nonzero, ne-eqb (m1 p G m part) 0 divides, t)
+        item-9 t = rw (ne-eqb m 1 repeated, nonzero, ne-eqb (m1 p G g m part) 0 divides, t)

@@ -22,8 +22,8 @@ pub record PartHeld (p : ℕ) (r : Part) : Type 0 where
   pub second : FactorHeld (p *ℕ p) (r .second)
 
 -- r is the part that items 4 to 9 give
-pub record SplitByItems (p : ℕ) (base : List ℕ) (d m : ℕ) (part : List ℕ) (r : Part) : Type 0 where
-  pub is : asPart r ≡ record { base = listed d base; exponent = m; splitting = parts.splitting p (listed d base) m (listed (m *ℕ d) part) }
+pub record SplitByItems (p : ℕ) (base g : List ℕ) (d m : ℕ) (part : List ℕ) (r : Part) : Type 0 where
+  pub is : asPart r ≡ record { base = listed d base; exponent = m; splitting = parts.splitting p (listed d base) (listed d g) m (listed (m *ℕ d) part) }
   pub base-is : r .base ≡ base
   pub degree-is : r .degree ≡ d
   pub first : FactorHeld (p *ℕ p) (r .first)

@@ -23,12 +23,11 @@ use Rattle.algebra.specs.ListShapes.{low-reduce, length-scale}
 use Rattle.algebra.specs.ListDivision.{poly-zeros, poly-isZero, isZero-poly}
 use Rattle.modular.specs.Coefficients.{Represents, zeros}
 use Rattle.theorems.specs.MonicLists.{MonicList, monic-poly}
-use Rattle.theorems.specs.Reductions.{digits-monic}
 use Rattle.theorems.specs.ListExtension.{lift-list-monic}
 use Rattle.theorems.specs.PartForm.{HighestPower, power-monic}
 use Rattle.verdicts.specs.Degrees.{rest-room}
-use Rattle.modular.specs.Arrays.{beginning, reduced-square, below-modulo}
-use Rattle.verdicts.specs.Given.{listed, Held, Given, large, degree-room, base-degree, base-poly, base-list}
+use Rattle.modular.specs.Arrays.{beginning}
+use Rattle.verdicts.specs.Given.{listed, Held, held-poly, Given, large, degree-room, base-degree, g-list}
 use Rattle.verdicts.specs.Scaled.{scaled-below}
 use Rattle.verdicts.specs.Lifts.{lift-by}
 use Rattle.verdicts.specs.Cofactors.{HighestIn}
@@ -45,9 +44,12 @@ monic-held {n} {e} m room h = (
   record { reduced = h .reduced; below = rw (h .is) (monic-poly m .below) },
 )
 
-module _ {p : ℕ} {base : List ℕ} {d m : ℕ} {part : List ℕ} (given : Given p base d m part) where
+module _ {p : ℕ} {base g : List ℕ} {d m : ℕ} {part : List ℕ} (given : Given p base g d m part) where
   abbrev G : List ℕ
   G = listed d base
+
+  abbrev γ : List ℕ
+  γ = listed d g
 
   abbrev Q : List ℕ
   Q = listed (m *ℕ d) part
@@ -65,53 +67,50 @@ module _ {p : ℕ} {base : List ℕ} {d m : ℕ} {part : List ℕ} (given : Give
     held = record { reduced = zeros (p *ℕ p) pos .reduced; below = rw (poly-zeros (p *ℕ p) 33) (below-𝟎 1) };
   }
 
-  base-held : (t : ℕ) → FactorHeld (p *ℕ p) (record { coefs = base; degree = d; times = t })
-  base-held t = record {
-    room = degree-room given;
-    held = record { reduced = reduced-square (given .base-held .reduced); below = below-modulo (p *ℕ p) (given .base-held .reduced) (given .base-held .below) };
-  }
+  g-held : (t : ℕ) → FactorHeld (p *ℕ p) (record { coefs = g; degree = d; times = t })
+  g-held t = record { room = degree-room given; held = given .g-held }
 
   part-held : (t : ℕ) → FactorHeld (p *ℕ p) (record { coefs = part; degree = m *ℕ d; times = t })
   part-held t = record { room = given .room; held = given .part-held }
 
   -- item 4: "The factor is the part itself"
-  pub split-4 : m ≡ 1 → SplitByItems p base d m part (oneFactor base d m Basic part (m *ℕ d) 1)
-  split-4 e = record { is = ap partWith (sym (item-4 p G m Q e)); base-is = refl; degree-is = refl; first = part-held 1; second = none-held }
+  pub split-4 : m ≡ 1 → SplitByItems p base g d m part (oneFactor base d m Basic part (m *ℕ d) 1)
+  split-4 e = record { is = ap partWith (sym (item-4 p G γ m Q e)); base-is = refl; degree-is = refl; first = part-held 1; second = none-held }
 
-  module _ (repeated : m ≢ 1) (h : List ℕ) (is : Represents p h (poly p (parts.hBar p G m Q))) where
+  module _ (repeated : m ≢ 1) (h : List ℕ) (is : Represents p h (poly p (parts.hBar p γ m Q))) where
     -- item 6: "h bar is zero. The factor is g, m times"
-    pub split-6 : poly p h ≡ 𝟎 → SplitByItems p base d m part (oneFactor base d m Power base d m)
+    pub split-6 : poly p h ≡ 𝟎 → SplitByItems p base g d m part (oneFactor base d m Power g d m)
     split-6 e = record {
-      is = ap partWith (sym (item-6 p G m Q repeated zero));
+      is = ap partWith (sym (item-6 p G γ m Q repeated zero));
       base-is = refl;
       degree-is = refl;
-      first = base-held m;
+      first = g-held m;
       second = none-held;
     }
       where
-        low : (j : ℕ) → getD (parts.hBar p G m Q) j 0 < p
+        low : (j : ℕ) → getD (parts.hBar p γ m Q) j 0 < p
         low = unfold parts.hBar in low-reduce p (omega (arith, large given)) _
 
-        zero : spec.isZero (parts.hBar p G m Q) ≡ true
-        zero = passes _ (isZero-poly p (omega (arith, large given)) (parts.hBar p G m Q) low (sym (is .is) ∙ e))
+        zero : spec.isZero (parts.hBar p γ m Q) ≡ true
+        zero = passes _ (isZero-poly p (omega (arith, large given)) (parts.hBar p γ m Q) low (sym (is .is) ∙ e))
 
     module _ (nonzero : poly p h ≢ 𝟎) {k : ℕ} {w : List ℕ} (top : HighestIn p h base k w) where
-      F : Found p base d m part k w
+      F : Found p base g d m part k w
       F = found given h (is .is) nonzero top
 
-      not-zero : spec.isZero (parts.hBar p G m Q) ≡ false
+      not-zero : spec.isZero (parts.hBar p γ m Q) ≡ false
       not-zero = fails _ (λ t. nonzero (is .is ∙ poly-isZero p _ t))
 
-      H : HighestPower (large given) (given .over)
+      H : HighestPower (large given) (given .over) (given .lift)
       H = highest-in given h (is .is) nonzero
 
       pub less : k < m
       less = omega (arith, F .exponent, H .less)
 
       -- item 7: "The part is irreducible"
-      pub split-7 : k ≡ 0 → SplitByItems p base d m part (oneFactor base d m Solid part (m *ℕ d) 1)
+      pub split-7 : k ≡ 0 → SplitByItems p base g d m part (oneFactor base d m Solid part (m *ℕ d) 1)
       split-7 e = record {
-        is = ap partWith (sym (item-7 p G m Q repeated not-zero (sym (F .exponent) ∙ e)));
+        is = ap partWith (sym (item-7 p G γ m Q repeated not-zero (sym (F .exponent) ∙ e)));
         base-is = refl;
         degree-is = refl;
         first = part-held 1;
@@ -122,21 +121,21 @@ module _ {p : ℕ} {base : List ℕ} {d m : ℕ} {part : List ℕ} (given : Give
       pub last-below : Below ((m - k) *ℕ d) (poly p w)
       last-below = F .below
 
-      degrees : (m - parts.m1 p G m Q) *ℕ spec.degree G ≡ (m - k) *ℕ d
+      degrees : (m - parts.m1 p G γ m Q) *ℕ spec.degree G ≡ (m - k) *ℕ d
       degrees = ap₂ (λ (j e : ℕ). (m - j) *ℕ e) (sym (F .exponent)) (base-degree given)
 
-      length-w : length (parts.w p G m Q) ≡ suc ((m - k) *ℕ d)
+      length-w : length (parts.w p G γ m Q) ≡ suc ((m - k) *ℕ d)
       length-w = H .length-w ∙ ap suc degrees
 
-      below-w : Below ((m - k) *ℕ d) (poly p (parts.w p G m Q))
+      below-w : Below ((m - k) *ℕ d) (poly p (parts.w p G γ m Q))
       below-w = subst (Below ((m - k) *ℕ d)) (F .is) last-below
 
       module _ (divides : k ≢ 0) where
-        divides-m1 : parts.m1 p G m Q ≢ 0
+        divides-m1 : parts.m1 p G γ m Q ≢ 0
         divides-m1 e = divides (F .exponent ∙ e)
 
         -- the test of item 8
-        test : (b : Bool) → (not (eqb (m % p) 0) && eqb k (m - 1)) ≡ b → (not (eqb (m % p) 0) && eqb (parts.m1 p G m Q) (m - 1)) ≡ b
+        test : (b : Bool) → (not (eqb (m % p) 0) && eqb k (m - 1)) ≡ b → (not (eqb (m % p) 0) && eqb (parts.m1 p G γ m Q) (m - 1)) ≡ b
         test b = subst (λ (j : ℕ). (not (eqb (m % p) 0) && eqb j (m - 1)) ≡ b) (F .exponent)
 
         -- item 8: "the factor is g + p·u, m times"
@@ -147,26 +146,26 @@ module _ {p : ℕ} {base : List ℕ} {d m : ℕ} {part : List ℕ} (given : Give
           pub root-below : Below d (poly p w)
           root-below = subst (λ (e : ℕ). Below e (poly p w)) once last-below
 
-          scaled : poly p (spec.scale p (inverse p m) w) ≡ poly p (parts.u p G m Q)
+          scaled : poly p (spec.scale p (inverse p m) w) ≡ poly p (parts.u p G γ m Q)
           scaled = unfold parts.u in
               poly-scale p (omega (arith, large given)) (inverse p m) w ∙ ap (λ a. constant (residue p (inverse p m)) · a) (F .is)
-              ∙ sym (poly-scale p (omega (arith, large given)) (inverse p m) (parts.w p G m Q))
+              ∙ sym (poly-scale p (omega (arith, large given)) (inverse p m) (parts.w p G γ m Q))
 
-          root-list : MonicList (p *ℕ p) d (spec.lift p G (parts.u p G m Q))
+          root-list : MonicList (p *ℕ p) d (spec.lift p γ (parts.u p G γ m Q))
           root-list =
-              lift-list-monic p (large given) (digits-monic p (large given) (base-list given)) (parts.u p G m Q)
+              lift-list-monic p (large given) (g-list given) (parts.u p G γ m Q)
               (omega (arith, long, length-w, once)) (subst (Below d) scaled (scaled-below p (inverse p m) w (large given) root-below))
             where
-              long : length (parts.u p G m Q) ≡ length (parts.w p G m Q)
-              long = unfold parts.u in length-scale p (inverse p m) (parts.w p G m Q)
+              long : length (parts.u p G γ m Q) ≡ length (parts.w p G γ m Q)
+              long = unfold parts.u in length-scale p (inverse p m) (parts.w p G γ m Q)
 
-          pub split-8 : {q : List ℕ} → Represents (p *ℕ p) q (poly (p *ℕ p) (spec.lift p base (spec.scale p (inverse p m) w)))
-              → SplitByItems p base d m part (oneFactor base d m Power q d m)
+          pub split-8 : {q : List ℕ} → Represents (p *ℕ p) q (poly (p *ℕ p) (spec.lift p g (spec.scale p (inverse p m) w)))
+              → SplitByItems p base g d m part (oneFactor base d m Power q d m)
           split-8 {q} r =
-              let (list, held) = monic-held root-list (degree-room given) (lift-by p (large given) _ _ _ _ (sym (base-poly given (p *ℕ p))) scaled r) in
+              let (list, held) = monic-held root-list (degree-room given) (lift-by p (large given) _ _ _ _ (sym (held-poly (given .g-held))) scaled r) in
               record {
                 is = ap (λ f. partWith (parts.splitInto parts.power (parts.factor f m ∷ []))) list
-                    ∙ ap partWith (sym (item-8 p G m Q repeated not-zero divides-m1 (test true t)));
+                    ∙ ap partWith (sym (item-8 p G γ m Q repeated not-zero divides-m1 (test true t)));
                 base-is = refl;
                 degree-is = refl;
                 first = record { room = degree-room given; held = held };
@@ -175,29 +174,29 @@ module _ {p : ℕ} {base : List ℕ} {d m : ℕ} {part : List ℕ} (given : Give
 
         -- item 9: "The factors are g, m1 times, then g^(m − m1) + p·w once"
         module _ (t : (not (eqb (m % p) 0) && eqb k (m - 1)) ≡ false) where
-          last-list : MonicList (p *ℕ p) ((m - k) *ℕ d) (spec.lift p (spec.pow (p *ℕ p) G (m - parts.m1 p G m Q)) (parts.w p G m Q))
+          last-list : MonicList (p *ℕ p) ((m - k) *ℕ d) (spec.lift p (spec.pow (p *ℕ p) γ (m - parts.m1 p G γ m Q)) (parts.w p G γ m Q))
           last-list =
               lift-list-monic p (large given)
-              (subst (λ (e : ℕ). MonicList (p *ℕ p) e (spec.pow (p *ℕ p) G (m - parts.m1 p G m Q))) degrees
-              (power-monic (large given) (given .over) (m - parts.m1 p G m Q)))
-              (parts.w p G m Q) (omega (arith, length-w)) below-w
+              (subst (λ (e : ℕ). MonicList (p *ℕ p) e (spec.pow (p *ℕ p) γ (m - parts.m1 p G γ m Q))) degrees
+              (power-monic (large given) (given .over) (given .lift) (m - parts.m1 p G γ m Q)))
+              (parts.w p G γ m Q) (omega (arith, length-w)) below-w
 
-          powers : poly (p *ℕ p) (spec.pow (p *ℕ p) base (m - k)) ≡ poly (p *ℕ p) (spec.pow (p *ℕ p) G (m - parts.m1 p G m Q))
+          powers : poly (p *ℕ p) (spec.pow (p *ℕ p) g (m - k)) ≡ poly (p *ℕ p) (spec.pow (p *ℕ p) γ (m - parts.m1 p G γ m Q))
           powers =
-              poly-pow (p *ℕ p) pos base (m - k)
-              ∙ ap₂ (λ a (j : ℕ). pow (PolyRing (Residues (p *ℕ p))) a (m - j)) (sym (base-poly given (p *ℕ p))) (F .exponent)
-              ∙ sym (poly-pow (p *ℕ p) pos G (m - parts.m1 p G m Q))
+              poly-pow (p *ℕ p) pos g (m - k)
+              ∙ ap₂ (λ a (j : ℕ). pow (PolyRing (Residues (p *ℕ p))) a (m - j)) (sym (held-poly (given .g-held))) (F .exponent)
+              ∙ sym (poly-pow (p *ℕ p) pos γ (m - parts.m1 p G γ m Q))
 
-          pub split-9 : {q : List ℕ} → Represents (p *ℕ p) q (poly (p *ℕ p) (spec.lift p (spec.pow (p *ℕ p) base (m - k)) w))
-              → SplitByItems p base d m part (twoFactors base d m k q ((m - k) *ℕ d))
+          pub split-9 : {q : List ℕ} → Represents (p *ℕ p) q (poly (p *ℕ p) (spec.lift p (spec.pow (p *ℕ p) g (m - k)) w))
+              → SplitByItems p base g d m part (twoFactors base g d m k q ((m - k) *ℕ d))
           split-9 {q} r =
               let room = rest-room m k d (given .room) in
               let (list, held) = monic-held last-list room (lift-by p (large given) _ _ _ _ powers (F .is) r) in
               record {
-                is = ap₂ (λ (j : ℕ) f. partWith (parts.splitInto (parts.split j) (parts.factor G j ∷ parts.factor f 1 ∷ []))) (F .exponent) list
-                    ∙ ap partWith (sym (item-9 p G m Q repeated not-zero divides-m1 (test false t)));
+                is = ap₂ (λ (j : ℕ) f. partWith (parts.splitInto (parts.split j) (parts.factor γ j ∷ parts.factor f 1 ∷ []))) (F .exponent) list
+                    ∙ ap partWith (sym (item-9 p G γ m Q repeated not-zero divides-m1 (test false t)));
                 base-is = refl;
                 degree-is = refl;
-                first = base-held k;
+                first = g-held k;
                 second = record { room = room; held = held };
               }

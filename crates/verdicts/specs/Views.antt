@@ -50,12 +50,12 @@ oneFactor base d m v q e t = record {
 }
 
 -- item 9: g, k times, and q once
-abbrev pub twoFactors : List ℕ → ℕ → ℕ → ℕ → List ℕ → ℕ → Part
-twoFactors base d m k q e = record {
+abbrev pub twoFactors : List ℕ → List ℕ → ℕ → ℕ → ℕ → List ℕ → ℕ → Part
+twoFactors base g d m k q e = record {
   base = base;
   degree = d;
   exponent = m;
   verdict = Split k;
-  first = record { coefs = base; degree = d; times = k };
+  first = record { coefs = g; degree = d; times = k };
   second = record { coefs = q; degree = e; times = 1 };
 }

@@ -15,7 +15,7 @@ ghost use Rattle.algebra.specs.Polynomials.{PolyRing, 𝟎};
 ghost use Rattle.algebra.specs.Degree.{Below, Monic};
 ghost use Rattle.algebra.specs.CoefficientLists.{poly, Reduced};
 ghost use Rattle.modular.specs.Coefficients.{Represents};
-ghost use Rattle.verdicts.specs.Given.{listed, Given};
+ghost use Rattle.verdicts.specs.Given.{listed, Held, Given};
 ghost use Rattle.verdicts.specs.Cofactors.{HighestIn};
 ghost use Rattle.verdicts.specs.SplitByItems.{SplitByItems};
 ghost use Rattle.verdicts.specs.Views.{oneFactor, twoFactors};
@@ -76,13 +76,13 @@ fn power(a: [u16; 33], d: usize, k: usize, n: u16) -> [u16; 33]
 }
 
 // Item 5: h bar, where part − g^m = p·h.
-fn h_bar(base: [u16; 33], d: usize, m: usize, part: [u16; 33], p: u16) -> [u16; 33]
-    requires { ⌜ Given p base d m part ⌝ }
-    ensures { λ r. ⌜ Represents p r (poly p (parts.hBar p (listed d base) m (listed (m *ℕ d) part))) ⌝ }
+fn h_bar(g: [u16; 33], d: usize, m: usize, part: [u16; 33], p: u16) -> [u16; 33]
+    requires { ⌜ (taken p ≡ true) × (m *ℕ d ≤ 32) × Held (p *ℕ p) d g × Held (p *ℕ p) (m *ℕ d) part × Monic d (poly (p *ℕ p) g) ⌝ }
+    ensures { λ r. ⌜ Represents p r (poly p (parts.hBar p (listed d g) m (listed (m *ℕ d) part))) ⌝ }
 {
     let n = p * p;
-    let g = power(base, d, m, n);
-    let e = difference(part, g, n);
+    let q = power(g, d, m, n);
+    let e = difference(part, q, n);
     over(e, p)
 }
 
@@ -143,7 +143,7 @@ fn is_last_power(m: usize, k: usize, p: u16) -> bool
 
 // Item 8: g + p·u, where u = w/m and w is of lower degree than g, which is of degree d.
 fn root(g: [u16; 33], d: usize, w: [u16; 33], m: usize, p: u16) -> [u16; 33]
-    requires { ⌜ (taken p ≡ true) × (m % p ≢ 0) × (d ≤ 32) × Reduced p 33 g × Below d (poly p w) ⌝ }
+    requires { ⌜ (taken p ≡ true) × (m % p ≢ 0) × (d ≤ 32) × Reduced (p *ℕ p) 33 g × Below d (poly p w) ⌝ }
     ensures { λ r. ⌜ Represents (p *ℕ p) r (poly (p *ℕ p) (lists.lift p g (lists.scale p (inverses.inverse p m) w))) ⌝ }
 {
     let u = divided_by_exponent(w, d, m, p);
@@ -193,13 +193,14 @@ fn one_factor(
 // Item 9: g, k times, and the last factor once.
 fn two_factors(
     base: [u16; 33],
+    g: [u16; 33],
     d: usize,
     m: usize,
     k: usize,
     last: [u16; 33],
     degree: usize,
 ) -> Part
-    ensures { λ r. ⌜ r ≡ twoFactors base d m k last degree ⌝ }
+    ensures { λ r. ⌜ r ≡ twoFactors base g d m k last degree ⌝ }
 {
     Part {
         base: base,
@@ -207,7 +208,7 @@ fn two_factors(
         exponent: m,
         verdict: Verdict::Split(k),
         first: Factor {
-            coefs: base,
+            coefs: g,
             degree: d,
             times: k,
         },
@@ -222,14 +223,15 @@ fn two_factors(
 // Items 7 to 9, where m is above 1 and h, the array of h bar, is not zero.
 fn split_repeated(
     base: [u16; 33],
+    g: [u16; 33],
     d: usize,
     m: usize,
     part: [u16; 33],
     h: [u16; 33],
     p: u16,
 ) -> Part
-    requires { ⌜ Given p base d m part × (m ≢ 1) × Represents p h (poly p (parts.hBar p (listed d base) m (listed (m *ℕ d) part))) × (poly p h ≢ 𝟎) ⌝ }
-    ensures { λ r. ⌜ SplitByItems p base d m part r ⌝ }
+    requires { ⌜ Given p base g d m part × (m ≢ 1) × Represents p h (poly p (parts.hBar p (listed d g) m (listed (m *ℕ d) part))) × (poly p h ≢ 𝟎) ⌝ }
+    ensures { λ r. ⌜ SplitByItems p base g d m part r ⌝ }
 {
     let top = highest(h, base, d, m, p);
     let k = top.exponent;
@@ -238,24 +240,31 @@ fn split_repeated(
         return one_factor(base, d, m, Verdict::Solid, part, m * d, 1);
     }
     if is_last_power(m, k, p) {
-        let q = root(base, d, w, m, p);
+        let q = root(g, d, w, m, p);
         return one_factor(base, d, m, Verdict::Power, q, d, m);
     }
-    let q = last_factor(base, d, m - k, w, p);
-    two_factors(base, d, m, k, q, (m - k) * d)
+    let q = last_factor(g, d, m - k, w, p);
+    two_factors(base, g, d, m, k, q, (m - k) * d)
 }
 
-// Items 4 to 9: the verdict on the part over G to the m and its factors, where G, in `base`, is of degree d.
-pub fn split_part(base: [u16; 33], d: usize, m: usize, part: [u16; 33], p: u16) -> Part
-    requires { ⌜ Given p base d m part ⌝ }
-    ensures { λ r. ⌜ SplitByItems p base d m part r ⌝ }
+// Items 4 to 9: the verdict on the part over G to the m and its factors, where G, in `base`, is of degree d, and g modulo p² has the bar G.
+pub fn split_part(
+    base: [u16; 33],
+    g: [u16; 33],
+    d: usize,
+    m: usize,
+    part: [u16; 33],
+    p: u16,
+) -> Part
+    requires { ⌜ Given p base g d m part ⌝ }
+    ensures { λ r. ⌜ SplitByItems p base g d m part r ⌝ }
 {
     if m == 1 {
         return one_factor(base, d, m, Verdict::Basic, part, m * d, 1);
     }
-    let h = h_bar(base, d, m, part, p);
+    let h = h_bar(g, d, m, part, p);
     if size(h) == 0 {
-        return one_factor(base, d, m, Verdict::Power, base, d, m);
+        return one_factor(base, d, m, Verdict::Power, g, d, m);
     }
-    split_repeated(base, d, m, part, h, p)
+    split_repeated(base, g, d, m, part, h, p)
 }

@@ -3,8 +3,7 @@
 use native.Mathlib.Omega.{arith}
 use borrow.Author.Needs.{needs}
 use Rattle.algebra.specs.Numbers.{square-large}
-use Rattle.algebra.specs.TakenPrimes.{square-small}
-use Rattle.verdicts.specs.Given.{large, g-is-monic}
+use Rattle.algebra.specs.TakenPrimes.{is-prime, square-small}
 use Rattle.verdicts.specs.HBar.{h-bar}
 use Rattle.verdicts.proofs.h_bar.Statement.{statement}
 use Rattle.verdicts.proofs.h_bar.Tie as tie
@@ -13,10 +12,11 @@ pub h-bar-spec : {M : Type 1} → statement M
 h-bar-spec =
     tie.close
     (tie.spec
-    (λ c. omega (arith, square-small _ (c .pre .prime)))  -- mul-n
-    (λ c κs. (square-large _ (large (c .pre)), c .pre .room, g-is-monic (c .pre)))  -- power-requires
+    (λ c. omega (arith, square-small _ (c .pre .0)))  -- mul-n
+    (λ c κs. (square-large _ (is-prime (c .pre .0) .large), c .pre .1, c .pre .4))  -- power-requires
     (λ c κs. search needs)  -- difference-requires
-    (λ c κs. omega (arith, large (c .before .before .pre)))  -- over-requires
+    (λ c κs. omega (arith, is-prime (c .before .before .pre .0) .large))  -- over-requires
     (λ c.
+    let pre = c .before .before .before .pre in
     rw (c .over .ensures)
-    (h-bar (c .before .before .before .pre) (c .before .before .power .ensures) (c .before .difference .ensures))))  -- returns
+    (h-bar (is-prime (pre .0) .large) _ _ _ _ (pre .2) (pre .3) (c .before .before .power .ensures) (c .before .difference .ensures))))  -- returns

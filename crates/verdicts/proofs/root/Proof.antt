@@ -3,7 +3,7 @@
 use mathlib.Core.Path.{refl}
 use native.Mathlib.Omega.{arith}
 use borrow.Author.Needs.{needs}
-use Rattle.modular.specs.Arrays.{reduced-square, below-modulo}
+use Rattle.modular.specs.Arrays.{below-modulo}
 use Rattle.algebra.specs.TakenPrimes.{is-prime}
 use Rattle.verdicts.specs.Scaled.{scaled-below}
 use Rattle.verdicts.specs.Lifts.{lift-by}
@@ -20,7 +20,7 @@ root-spec =
     let u = c .divided-by-exponent .ensures in (
       pre .0,
       omega (arith, pre .2),
-      reduced-square (pre .3),
+      pre .3,
       below-modulo _ (u .reduced) (rw (u .is) (scaled-below _ _ _ (is-prime (pre .0) .large) (pre .4))),
     ))  -- lifted-requires
     (λ c.

@@ -2,6 +2,7 @@
 -- Assumes nothing.
 use borrow.Author.Needs.{needs}
 use Rattle.modular.specs.Arrays.{size-zero, size-nonzero}
+use Rattle.verdicts.specs.Given.{g-is-monic}
 use Rattle.verdicts.specs.SplitCases.{split-4, split-6}
 use Rattle.verdicts.proofs.split_part.Statement.{statement}
 use Rattle.verdicts.proofs.split_part.Tie as tie
@@ -13,7 +14,7 @@ split-part-spec =
     (λ c. search needs)  -- mul-one-factor
     (λ c κs. search needs)  -- one-factor-requires
     (λ c. rw (c .one-factor .ensures) (split-4 (c .before .before .pre) (c .before .if1 .taken)))  -- returns
-    (λ c κs. search needs)  -- h-bar-requires
+    (λ c κs. let given = c .before .pre in (given .prime, given .room, given .g-held, given .part-held, g-is-monic given))  -- h-bar-requires
     (λ c κs. search needs)  -- size-requires
     (λ c κs. search needs)  -- one-factor-requires-2
     (λ c.

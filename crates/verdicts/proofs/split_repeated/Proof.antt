@@ -32,7 +32,7 @@ split-repeated-spec =
       given .prime,
       last-power _ _ _ test .0,
       degree-room given,
-      given .base-held .reduced,
+      given .g-held .reduced,
       root-below given repeated _ h nonzero (c .before .before .before .before .highest .ensures) (c .before .before .if1 .left) test,
     ))  -- root-requires
     (λ c κs. search needs)  -- one-factor-requires-2
