@@ -8,7 +8,7 @@ use native.Mathlib.Nat.{mod-lt, zero-mod}
 use native.Mathlib.Omega.{arith}
 use lib.ListN.{length, getD, take, replicate, length-map, length-take, length-replicate, getD-replicate, List·getD-eq-default, List·getD-map}
 use lib.Seq.{getD-take}
-use Rattle.specification.specs.Polynomials.{plus, multiple, shift, times, reduce, add, scale, sub}
+use Rattle.specification.specs.Polynomials.{plus, multiple, shift, times, reduce, add, scale, sub, mul}
 use Rattle.algebra.specs.Numbers.{lt-or-le}
 
 pub length-plus : (f g : List ℕ) → length g ≤ length f → length (plus f g) ≡ length f
@@ -59,6 +59,12 @@ length-times a b (c ∷ f) g =
     length-shift (times (c ∷ f) (b ∷ g)) (omega arith) in
     length-plus-right (multiple a (b ∷ g)) (shift (times (c ∷ f) (b ∷ g))) (omega (arith, length-multiple a (b ∷ g)))
     ∙ longer ∙ omega arith
+
+pub length-mul : (n : ℕ) (f g : List ℕ) {d e : ℕ} → length f ≡ suc d → length g ≡ suc e → length (mul n f g) ≡ suc (d + e)
+unfolding mul
+length-mul n [] g h k = absurd (omega arith)
+length-mul n (a ∷ f) [] h k = absurd (omega arith)
+length-mul n (a ∷ f) (b ∷ g) h k = length-reduce n (times (a ∷ f) (b ∷ g)) ∙ length-times a b f g ∙ omega arith
 
 -- a list of zeros is 0 everywhere
 pub getD-zeros : (k j : ℕ) → _≡_ {A = ℕ} (getD (replicate k 0) j 0) 0

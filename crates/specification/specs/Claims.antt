@@ -1,15 +1,16 @@
--- What is claimed of the definitions, as types: irreducible, term 3, items 1 to 3 with their uniqueness, and items 4 to 9.
+-- What is claimed of the definitions, as types: irreducible, term 3, items 1 to 3 with their uniqueness, items 4 to 9 and what an answer holds.
 -- No search stands in them: they speak of all products, all lists and all sheets. Term 3 has the words of document 00.
 use mathlib.Core.Path.{_≡_}
-use mathlib.Core.Logic.{_⊎_}
-use Prim.Native.Nat.{ℕ, _+_, _*_, _≤_, _<_}
+use mathlib.Core.Bool.{false}
+use mathlib.Core.Logic.{_⊎_, _≢_}
+use Prim.Native.Nat.{ℕ, suc, _+_, _*_, _%_, _≤_, _<_}
 use mathlib.Core.List.{List, [], _∷_, map, List·Memᴰ}
 use lib.ListN.{length, getD, take}
 use Rattle.specification.specs.Limits.{answerArea}
-use Rattle.specification.specs.Polynomials.{Poly, degree, leading, reduce, mul, pow, product}
+use Rattle.specification.specs.Polynomials.{Poly, degree, leading, isZero, reduce, scale, mul, pow, lift, product}
 use Rattle.specification.specs.Powers.{Power, powers, primary}
-use Rattle.specification.specs.Parts.{Factor, partOf}
-use Rattle.specification.specs.Totals.{members, different}
+use Rattle.specification.specs.Parts.{Factor, hBar, m1, w, u, digitLift, partOf, partsOf}
+use Rattle.specification.specs.Totals.{members, listOf, total, different}
 use Rattle.specification.specs.Sheets.{Sheet, accepted, readSheet}
 use Rattle.specification.specs.Answers.{answer}
 use Rattle.specification.specs.FactorList.{factorList, factorTotal, differentTotal}
@@ -97,6 +98,10 @@ pub record PrimaryPart (p : ℕ) (f : Poly) (P : Power) (q : Poly) : Type 0 wher
   pub cofactor : Poly
   pub multiplies : mul (p * p) q cofactor ≡ f
 
+-- "coprime": no monic polynomial of degree 1 or more divides the bars of both
+abbrev pub Coprime : ℕ → Poly → Poly → Type 0
+Coprime p a b = (c x y : Poly) → Monic p c → mul p c x ≡ reduce p a → mul p c y ≡ reduce p b → ⊥
+
 -- items 1 to 3 of f: they hold of the definitions, and of nothing else
 pub record Items (p : ℕ) (f : Poly) : Type 0 where
   -- item 1
@@ -109,6 +114,9 @@ pub record Items (p : ℕ) (f : Poly) : Type 0 where
   pub partOnly : (P : Power) → List·Memᴰ P (powers p f) → (q : Poly) → PrimaryPart p f P q → q ≡ primary p f P
   -- item 2: "the parts multiply to f"
   pub partsMultiply : product (p * p) (map (primary p f) (powers p f)) ≡ f
+  -- term 2: "the coprime primary parts of f"
+  pub partsCoprime : (P Q : Power) → List·Memᴰ P (powers p f) → List·Memᴰ Q (powers p f) → P .base ≢ Q .base
+      → Coprime p (primary p f P) (primary p f Q)
 
 -- items 1 to 3 of every accepted sheet
 abbrev pub Items1to3 : Type 0
@@ -116,9 +124,21 @@ Items1to3 = (bytes : List ℕ) (s : Sheet) → readSheet bytes ≡ accepted s �
 
 -- ---- items 4 to 9
 
+-- items 5 to 8: what h bar, m1, w and u of a part over G to the m are
+pub record Values (p : ℕ) (G g : Poly) (m : ℕ) (part : Poly) : Type 0 where
+  -- "let part − g^m = p·h"; modulo p² only the bar of h counts
+  pub hHolds : lift p (pow (p * p) g m) (hBar p g m part) ≡ part
+  -- "With h bar = G^m1 · w"
+  pub wHolds : mul p (pow p G (m1 p G g m part)) (w p G g m part) ≡ hBar p g m part
+  -- "m1 is the highest power of G that divides h bar", which is not zero
+  pub m1Highest : isZero (hBar p g m part) ≡ false → (v : Poly) → mul p (pow p G (suc (m1 p G g m part))) v ≡ hBar p g m part → ⊥
+  -- "u = w/m modulo p", where p does not divide m
+  pub uHolds : m % p ≢ 0 → scale p m (u p G g m part) ≡ w p G g m part
+
 -- items 4 to 9 of the part over a power: its factors are a longest list of it, with the fewest different ones
 -- (which verdict is given in which case is said by `Parts.splitting` itself)
 pub record PartSplit (p : ℕ) (f : Poly) (P : Power) : Type 0 where
+  pub values : Values p (P .base) (digitLift (P .base)) (P .exponent) (primary p f P)
   pub longest : let L : List Poly = members (partOf p f P) in Longest (p * p) (primary p f P) L (length L) (different L)
   -- "m times", "m1 times", "once"
   pub repeated : (q : Factor) → List·Memᴰ q (partOf p f P .splitting .factors) → 1 ≤ q .times
@@ -128,6 +148,18 @@ abbrev pub Items4to9 : Type 0
 Items4to9 =
     (bytes : List ℕ) (s : Sheet) → readSheet bytes ≡ accepted s
     → (P : Power) → List·Memᴰ P (powers (s .prime) (s .poly)) → PartSplit (s .prime) (s .poly) P
+
+-- ---- what is read off an answer
+
+-- the list and the totals in an answer's bytes are those of items 1 to 9
+pub record ReadOff (s : Sheet) : Type 0 where
+  pub list : factorList (answer s) ≡ listOf (partsOf (s .prime) (s .poly))
+  pub total : factorTotal (answer s) ≡ total (partsOf (s .prime) (s .poly))
+  pub different : differentTotal (answer s) ≡ different (listOf (partsOf (s .prime) (s .poly)))
+
+-- of every accepted sheet
+abbrev pub AnswersReadOff : Type 0
+AnswersReadOff = (bytes : List ℕ) (s : Sheet) → readSheet bytes ≡ accepted s → ReadOff s
 
 -- the degrees of a list written out, so that each counts "times its repeats"
 unfoldable pub degreeSum : List Poly → ℕ

@@ -1,8 +1,7 @@
 -- What is claimed of settings, of the bytes of answers and of sheets, and of the answer reader, as types. No search stands in them.
--- `Settings` counts settings by a one-to-one correspondence with strings of digits.
 use mathlib.Core.Path.{_≡_}
 use mathlib.Core.Logic.{_↔_}
-use Prim.Native.Nat.{ℕ, _+_, _*_, _≤_, _<_}
+use Prim.Native.Nat.{ℕ, _+_, _*_, _^_, _≤_, _<_}
 use mathlib.Core.List.{List, [], _∷_, _++_, map, flatMap, List·Memᴰ}
 use lib.ListN.{length}
 use lib.Dec.{T}
@@ -37,21 +36,21 @@ pub record Setting (p : ℕ) (f : Poly) (L : List Poly) : Type 0 where
   pub joined : flatMap (λ (B : List Poly). B) byPart ≡ L
   pub inParts : InParts (p * p) (map (primary p f) (powers p f)) byPart
 
--- k digits modulo p
-pub record Digits (p k : ℕ) (ds : List ℕ) : Type 0 where
-  pub count : length ds ≡ k
-  pub low : (d : ℕ) → List·Memᴰ d ds → d < p
+-- no member stands in a list twice
+abbrev pub NoneTwice : {A : Type 0} → List A → Type 0
+NoneTwice [] = Unit {0}
+NoneTwice (a ∷ l) = (List·Memᴰ a l → ⊥) × NoneTwice l
 
--- the strings of k digits number what has a property, one to one: so there are p to the k of it
-pub record Numbered {A : Type 0} (p k : ℕ) (Has : A → Type 0) : Type 0 where
-  pub of : List ℕ → A
-  pub offered : (ds : List ℕ) → Digits p k ds → Has (of ds)
-  pub noneTwice : (ds es : List ℕ) → Digits p k ds → Digits p k es → of ds ≡ of es → ds ≡ es
-  pub allOffered : (a : A) → Has a → (ds : List ℕ) × Digits p k ds × (of ds ≡ a)
+-- n things have a property: a list of n has each of them once, and no others
+pub record Counted {A : Type 0} (n : ℕ) (Has : A → Type 0) : Type 0 where
+  pub list : List A
+  pub count : length list ≡ n
+  pub noneTwice : NoneTwice list
+  pub exactly : (a : A) → List·Memᴰ a list ↔ Has a
 
 -- "p to the power of the free digits is the number of settings offered for f"
 abbrev pub SettingsCounted : ℕ → Poly → Type 0
-SettingsCounted p f = Numbered p (freeDigits (partsOf p f)) (Setting p f)
+SettingsCounted p f = Counted (p ^ freeDigits (partsOf p f)) (Setting p f)
 
 -- the settings of every accepted sheet
 abbrev pub Settings : Type 0

@@ -17,6 +17,7 @@ pub mod Factors
 pub mod PartForm
 pub mod SplitPart
 pub mod Verdicts
+pub mod PartValues
 pub mod Recognised
 pub mod CoefficientBytes
 pub mod GoodSheets
@@ -32,6 +33,7 @@ pub mod Reader
 pub mod AllParts
 pub mod LongestHolds
 pub mod Numberings
+pub mod DigitStrings
 pub mod NumberedLifts
 pub mod PartLists
 pub mod PartSettings

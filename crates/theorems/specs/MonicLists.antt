@@ -15,7 +15,7 @@ use Rattle.algebra.specs.Residues.{ℤ/, residue, residue-value, residue-one, v
 use Rattle.algebra.specs.Polynomials.{poly-ext, tail, coef-tail}
 use Rattle.algebra.specs.Degree.{Below, Monic, monic-mul}
 use Rattle.algebra.specs.CoefficientLists.{ℤ[x]/, poly, Reduced, coef-poly, below-poly, poly-mul, same-list}
-use Rattle.algebra.specs.ListShapes.{length-times, length-reduce, low-reduce}
+use Rattle.algebra.specs.ListShapes.{length-mul, low-reduce}
 
 -- the first m coefficients
 unfoldable pub list : {n : ℕ} → ℕ → ℤ[x]/ n → List ℕ
@@ -100,13 +100,8 @@ module _ {n : ℕ} where
   pub monic-list-mul : 1 < n → {d e : ℕ} {f g : Poly} → MonicList n d f → MonicList n e g → MonicList n (d +ℕ e) (mul n f g)
   monic-list-mul l {d} {e} {f} {g} m k =
       monic-reduced l
-      (record { len = long f g (m .reduced .len) (k .reduced .len); low = unfold mul in low-reduce n (omega arith) (times f g) })
+      (record { len = length-mul n f g (m .reduced .len) (k .reduced .len); low = unfold mul in low-reduce n (omega arith) (times f g) })
       (subst (Monic (d +ℕ e)) (sym (poly-mul n (omega arith) f g)) (monic-mul (monic-poly m) (monic-poly k)))
-    where
-      long : (f g : Poly) → length f ≡ suc d → length g ≡ suc e → length (mul n f g) ≡ suc (d +ℕ e)
-      long [] g h k = absurd (omega arith)
-      long (a ∷ f) [] h k = absurd (omega arith)
-      long (a ∷ f) (b ∷ g) h k = unfold mul in length-reduce n (times (a ∷ f) (b ∷ g)) ∙ length-times a b f g ∙ omega arith
 
   -- of degree 0 there is only 1
   pub monic-list-zero : (f : Poly) → MonicList n 0 f → f ≡ 1 ∷ []

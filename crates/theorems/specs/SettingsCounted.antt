@@ -1,4 +1,4 @@
--- "p to the power of the free digits is the number of settings offered for f": the strings of free digits are settings, one to one.
+-- "p to the power of the free digits is the number of settings offered for f": the strings of free digits number them.
 -- Proves it of every monic f and every prime. Assumes nothing.
 use mathlib.Core.Path.{_≡_, refl, sym, _∙_, ap, subst}
 use mathlib.Core.List.{List, [], _∷_, map, flatMap}
@@ -10,10 +10,9 @@ use Rattle.specification.specs.Powers.{Power, powers, primary}
 use Rattle.specification.specs.Parts.{partOf, partsOf}
 use Rattle.specification.specs.Totals as totals
 use Rattle.specification.specs.Claims as claims
-use Rattle.specification.specs.Promises.{Numbered}
 use Rattle.specification.specs.Promises as promises
 use Rattle.algebra.specs.Numbers.{square-large}
-use Rattle.algebra.specs.Fields.{Prime}
+use Rattle.algebra.specs.Fields.{Prime, prime-pos}
 use Rattle.algebra.specs.CoefficientLists.{poly, poly-product}
 use Rattle.factorisation.specs.Members.{_∈_, All}
 use Rattle.factorisation.specs.Sums.{total}
@@ -22,7 +21,8 @@ use Rattle.theorems.specs.Items.{items}
 use Rattle.theorems.specs.AllParts.{Known, known}
 use Rattle.theorems.specs.LongestHolds.{longest}
 use Rattle.theorems.specs.Factorisations.{factorisation}
-use Rattle.theorems.specs.Numberings.{each-numbered, carried}
+use Rattle.theorems.specs.Numberings.{Numbered, each-numbered, carried}
+use Rattle.theorems.specs.DigitStrings.{counted}
 use Rattle.theorems.specs.PartLists.{at-most}
 use Rattle.theorems.specs.PartSettings.{PartSetting, part-settings-numbered}
 use Rattle.theorems.specs.JoinedSettings.{
@@ -126,8 +126,12 @@ module _ (p : ℕ) (prime : Prime p) {d : ℕ} {f : spec.Poly} (mf : MonicList (
           let L-is = longest p prime mf in
           t .longest (totals.listOf (partsOf p f)) (record { monic = λ q i. L-is .irreducible q i .monic; multiplies = L-is .multiplies })
 
-  pub settings-counted : promises.SettingsCounted p f
-  settings-counted =
+  -- strings of digits and settings correspond one to one
+  settings-numbered : Numbered p (totals.freeDigits (partsOf p f)) (promises.Setting p f)
+  settings-numbered =
       subst (λ (k : ℕ). Numbered p k (promises.Setting p f)) (free-is p f)
       (carried (each-numbered (λ P. PartSetting n (primary p f P) (s p f P)) (free p f) (powers p f) part-numbered)
       joined setting (settings-joined n (primary p f) (s p f) (powers p f)) setting-of-each)
+
+  pub settings-counted : promises.SettingsCounted p f
+  settings-counted = counted (prime-pos prime) settings-numbered

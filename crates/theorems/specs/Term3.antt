@@ -1,5 +1,5 @@
 -- The promises of documents 00 and 01 about every accepted sheet, as the claims of `specification` state them.
--- Proves term 3 of the answer's bytes and of a call, items 1 to 9, the degrees, the settings, the answer's size and bytes, which sheets are taken,
+-- Proves term 3 of the answer's bytes and of a call, items 1 to 9, what is read off an answer, the degrees, the settings, the answer's size and bytes, which sheets are taken,
 -- that inputs too long are refused, and the reader. Assumes nothing.
 use mathlib.Core.Path.{_≡_, refl, sym, _∙_, ap, subst}
 use mathlib.Core.Logic.{_↔_}
@@ -25,12 +25,15 @@ use Rattle.algebra.specs.Fields.{Prime, taken-prime}
 use Rattle.factorisation.specs.Members.{_∈_, All, all-map}
 use Rattle.theorems.specs.MonicLists.{MonicList, from-claims, monic-list-mul}
 use Rattle.theorems.specs.MonicDivision.{monic-list-one}
+use Rattle.theorems.specs.Reductions.{digit-lift}
 use Rattle.theorems.specs.Items.{items}
+use Rattle.theorems.specs.PartForm.{base-monic}
+use Rattle.theorems.specs.PartValues.{values}
 use Rattle.theorems.specs.SheetsRead.{read-is-good, read-is-written}
 use Rattle.theorems.specs.SheetsBothWays.{accepted-exactly}
 use Rattle.theorems.specs.SheetLength.{fault-place, long-refused}
 use Rattle.theorems.specs.AnswerLayout.{sheetParts}
-use Rattle.theorems.specs.AnswerReadBack.{MonicFactors, longest-in}
+use Rattle.theorems.specs.AnswerReadBack.{MonicFactors, list-back, total-back, different-back, longest-in}
 use Rattle.theorems.specs.PartShapes.{PartShape, partDegrees, records}
 use Rattle.theorems.specs.AnswerSize.{answer-fits, answer-is-bytes}
 use Rattle.theorems.specs.Reader as reader
@@ -116,10 +119,19 @@ items-1-to-3 bytes s e = let g = read-is-good bytes s e in items (s .prime) (pri
 pub items-4-to-9 : claims.Items4to9
 items-4-to-9 bytes s e P i =
     let g = read-is-good bytes s e in
+    let k = known (s .prime) (prime s g) (monic s g) P i in
     record {
+      values = values (prime s g) (k .over) (digit-lift (s .prime) (prime s g .large) (base-monic (prime s g .large) (k .over)));
       longest = part-longest (s .prime) (prime s g) (monic s g) P i;
-      repeated = known (s .prime) (prime s g) (monic s g) P i .split .repeated;
+      repeated = k .split .repeated;
     }
+
+pub answers-read-off : claims.AnswersReadOff
+answers-read-off bytes s e = record {
+  list = list-back s (monic-factors s (read-is-good bytes s e));
+  total = total-back s;
+  different = different-back s;
+}
 
 -- the degree of a product of monic polynomials
 product-degree : {n : ℕ} → 1 < n → (L : List Poly) → ((q : Poly) → q ∈ L → claims.Monic n q) → MonicList n (claims.degreeSum L) (product n L)

@@ -31,7 +31,7 @@ use Rattle.algebra.specs.ListLaws.{first-passes, upFrom-has}
 use Rattle.factorisation.specs.ExtensionLaws.{number, number-zero, number-suc}
 
 module _ (n : ℕ) where
-  number-constant : (k : ℕ) → number (PolyRing (Residues n)) k ≡ constant (residue n k)
+  pub number-constant : (k : ℕ) → number (PolyRing (Residues n)) k ≡ constant (residue n k)
   number-constant zero = number-zero (PolyRing (Residues n)) ∙ sym (ap constant (residue-zero n) ∙ constant-zero (Residues n))
   number-constant (suc k) =
       number-suc (PolyRing (Residues n)) k

@@ -1,6 +1,6 @@
 -- Items 4 to 9: the specification's splitting of a part over G to the m, for any monic g modulo p² with bar G.
 -- Proves that the factors of each verdict split the part; the cases stand in the document's order. Assumes nothing.
-use mathlib.Core.Path.{_≡_, refl, sym, _∙_, ap, ap₂, subst}
+use mathlib.Core.Path.{_≡_, sym, _∙_, ap, ap₂, subst}
 use mathlib.Core.Bool.{not, _&&_}
 use mathlib.Core.List.{[], _∷_}
 use mathlib.Core.Logic.{_⊎_, inl, inr, _≢_}
@@ -26,12 +26,12 @@ use Rattle.algebra.specs.CoefficientLists.{ℤ[x]/, poly, poly-pow, poly-scale}
 use Rattle.algebra.specs.Tests.{picked, both, left, right}
 use Rattle.algebra.specs.ListShapes.{length-scale, low-reduce}
 use Rattle.algebra.specs.ListDivision.{poly-isZero, isZero-poly}
-use Rattle.factorisation.specs.ExtensionLaws.{number, bar-mul, bar-mul-pow, bar-pow, bar-number, π-equal, binomial}
+use Rattle.factorisation.specs.ExtensionLaws.{number, bar-mul, bar-mul-pow, bar-pow, bar-number, binomial}
 use Rattle.theorems.specs.MonicLists.{to-claims}
 use Rattle.theorems.specs.Reductions.{LiftOf, barred, bar-poly, lift-over}
 use Rattle.theorems.specs.Units.{number-multiple, number-divided}
 use Rattle.theorems.specs.ListExtension.{extension, lift-is, lift-list-monic}
-use Rattle.theorems.specs.PartForm.{PartOver, PowerDivides, HighestPower, power-monic, shape, bar-h, highest-power}
+use Rattle.theorems.specs.PartForm.{PartOver, PowerDivides, HighestPower, power-monic, shape-by, highest-power}
 use Rattle.theorems.specs.SplitPart.{SplitPart, one-factor, two-factors}
 
 eqb-equal : {a b : ℕ} → a ≡ b → T (eqb a b)
@@ -55,10 +55,6 @@ module _ {p : ℕ} (prime : Prime p) {G g : spec.Poly} {m : ℕ} {part : spec.Po
   abbrev k : ℕ
   k = m1 p G g m part
 
-  -- p·h depends on h bar alone
-  shape-by : (a : ℤ[x]/ (p *ℕ p)) → barred p large a ≡ poly p (hBar p g m part) → pow 𝓐 γ m + extension p large .π · a ≡ poly (p *ℕ p) part
-  shape-by a e = ap (λ b. pow 𝓐 γ m + b) (π-equal (extension p large) (e ∙ sym (bar-h large over lift))) ∙ sym (shape large over lift)
-
   -- G^0 divides h bar
   any-power : PowerDivides large over lift 0
   any-power = rw (pow-zero 𝓑 (poly p G)) (one-divides 𝓑 (poly p (hBar p g m part)))
@@ -75,7 +71,7 @@ module _ {p : ℕ} (prime : Prime p) {G g : spec.Poly} {m : ℕ} {part : spec.Po
       one-factor prime over lift g m (to-claims (over .irreducible .monic .positive) (lift .monic)) (over .positive)
       (omega arith) (rw e (divides-zero 𝓑 (pow 𝓑 (poly p G) (m - 1)))) (inl (omega arith))
       (sym (ap (λ a. pow 𝓐 γ m + a) (mul-zero 𝓐 (extension p large .π)) ∙ add-zero 𝓐 (pow 𝓐 γ m))
-      ∙ shape-by 𝟎 (keeps-zero (extension p large .hom) ∙ sym e))
+      ∙ shape-by large over lift 𝟎 (keeps-zero (extension p large .hom) ∙ sym e))
 
   module _ (H : HighestPower large over lift) where
     below-top : PowerDivides large over lift k
@@ -90,7 +86,7 @@ module _ {p : ℕ} (prime : Prime p) {G g : spec.Poly} {m : ℕ} {part : spec.Po
         (over .positive) (omega arith) (subst (PowerDivides large over lift) (omega arith) below-top) (inl (omega arith))
         (ap₂ (pow 𝓐) (lift-is p large g v) (sym last) ∙ binomial (extension p large) k γ (poly (p *ℕ p) v)
         ∙ ap (λ (j : ℕ). pow 𝓐 γ j + extension p large .π · (number 𝓐 j · (pow 𝓐 γ k · poly (p *ℕ p) v))) last
-        ∙ shape-by (number 𝓐 m · (pow 𝓐 γ k · poly (p *ℕ p) v)) bars)
+        ∙ shape-by large over lift (number 𝓐 m · (pow 𝓐 γ k · poly (p *ℕ p) v)) bars)
       where
         v : spec.Poly
         v = u p G g m part
@@ -135,7 +131,7 @@ module _ {p : ℕ} (prime : Prime p) {G g : spec.Poly} {m : ℕ} {part : spec.Po
         ∙ solve 𝓐 4 (λ x y π v. x ⊗ (y ⊕ π ⊗ v) ≈ x ⊗ y ⊕ π ⊗ (v ⊗ x)) tt (pow 𝓐 γ k) (pow 𝓐 γ (m - k)) (extension p large .π) (poly (p *ℕ p) v)
         ∙ ap (λ a. a + extension p large .π · (poly (p *ℕ p) v · pow 𝓐 γ k))
         (sym (pow-add 𝓐 γ k (m - k)) ∙ ap (pow 𝓐 γ) (let s : k +ℕ (m - k) ≡ m = omega (arith, H .less) in s))
-        ∙ shape-by (poly (p *ℕ p) v · pow 𝓐 γ k) bars)
+        ∙ shape-by large over lift (poly (p *ℕ p) v · pow 𝓐 γ k) bars)
       where
         q : spec.Poly
         q = spec.pow (p *ℕ p) g (m - k)

@@ -1,0 +1,121 @@
+-- Items 5 to 8 on lists: what the specification's h bar, m1, w and u of a part over G to the m are, for any monic g modulo p² with bar G.
+-- Proves the claims' `Values`. Assumes nothing.
+use mathlib.Core.Path.{_≡_, refl, sym, _∙_, ap, subst}
+use mathlib.Core.Bool.{false}
+use mathlib.Core.Logic.{_≢_}
+use Prim.Native.Nat.{ℕ, suc, _<_, _-_, _%_, _+_ as _+ℕ_, _*_ as _*ℕ_}
+use native.Mathlib.Omega.{arith}
+use lib.Dec.{T}
+use lib.ListN.{length, getD}
+use Rattle.specification.specs.Polynomials as spec
+use Rattle.specification.specs.Inverses.{inverse}
+use Rattle.specification.specs.Parts.{hBar, m1, w, u}
+use Rattle.specification.specs.Claims as claims
+use Rattle.algebra.specs.Numbers.{square-large}
+use Rattle.algebra.specs.Ring.{CommRing}
+use Rattle.algebra.specs.Residues.{Residues}
+use Rattle.algebra.specs.Polynomials.{PolyRing, _+_, _·_}
+use Rattle.algebra.specs.Fields.{Prime, prime-pos}
+use Rattle.algebra.specs.CoefficientLists.{ℤ[x]/, poly, poly-mul, poly-pow, poly-scale, same-list}
+use Rattle.algebra.specs.ListShapes.{length-mul, length-scale, low-reduce}
+use Rattle.algebra.specs.ListDivision.{isZero-poly, divides-exact, length-quotient, low-quotient}
+use Rattle.factorisation.specs.ExtensionLaws.{number}
+use Rattle.theorems.specs.MonicLists.{MonicList, monic-poly, monic-same}
+use Rattle.theorems.specs.MonicDivision.{Highest, highest-is, monic-list-pow}
+use Rattle.theorems.specs.Reductions.{LiftOf, bar-poly}
+use Rattle.theorems.specs.Units.{number-constant, number-divided}
+use Rattle.theorems.specs.ListExtension.{extension, lift-is, lift-list-monic}
+use Rattle.theorems.specs.PartForm.{PartOver, base-monic, power-monic, shape-by, below-h, length-h, highest-power}
+
+module _ {p : ℕ} (prime : Prime p) {G g : spec.Poly} {m : ℕ} {part : spec.Poly} (over : PartOver p G m part) (lift : LiftOf p G g) where
+  abbrev 𝓑 : CommRing (ℤ[x]/ p)
+  𝓑 = PolyRing (Residues p)
+
+  abbrev large : 1 < p
+  large = prime .large
+
+  abbrev d : ℕ
+  d = spec.degree G
+
+  abbrev h : spec.Poly
+  h = hBar p g m part
+
+  abbrev k : ℕ
+  k = m1 p G g m part
+
+  low-h : (j : ℕ) → getD h j 0 < p
+  low-h = unfold hBar in low-reduce p (prime-pos prime) _
+
+  -- item 5
+  h-holds : spec.lift p (spec.pow (p *ℕ p) g m) h ≡ part
+  h-holds =
+      monic-same refl (lift-list-monic p large (power-monic large over lift m) h (omega (arith, length-h large over lift)) (below-h large over lift))
+      (over .monic)
+      (lift-is p large (spec.pow (p *ℕ p) g m) h
+      ∙ ap (λ a. a + extension p large .π · poly (p *ℕ p) h) (poly-pow (p *ℕ p) (omega (arith, square-large p large)) g m)
+      ∙ shape-by large over lift (poly (p *ℕ p) h) (bar-poly p large h))
+
+  -- ---- items 7 to 9
+
+  top : Highest large G h m k
+  top = unfold m1 in highest-is large (base-monic large over) h m
+
+  power : MonicList p (k *ℕ d) (spec.pow p G k)
+  power = monic-list-pow large (base-monic large over) k
+
+  degrees : k *ℕ d +ℕ (m - k) *ℕ d ≡ m *ℕ d
+  degrees =
+      let s : k *ℕ d +ℕ (m - k) *ℕ d ≡ (k +ℕ (m - k)) *ℕ d = omega arith in
+      s ∙ ap (λ (j : ℕ). j *ℕ d) (let t : k +ℕ (m - k) ≡ m = omega (arith, top .bound) in t)
+
+  length-w : length (w p G g m part) ≡ suc ((m - k) *ℕ d)
+  unfolding w
+  length-w =
+      length-quotient p (prime-pos prime) (k *ℕ d) (spec.pow p G k) (power .reduced .len) (monic-poly power) h
+      ∙ omega (arith, length-h large over lift, degrees)
+
+  low-w : (j : ℕ) → getD (w p G g m part) j 0 < p
+  low-w = unfold w in low-quotient p (prime-pos prime) (k *ℕ d) (spec.pow p G k) (power .reduced .len) (monic-poly power) h low-h
+
+  w-holds : spec.mul p (spec.pow p G k) (w p G g m part) ≡ h
+  w-holds =
+      same-list
+      (record { len = length-mul p (spec.pow p G k) (w p G g m part) (power .reduced .len) length-w ∙ omega (arith, degrees); low = low })
+      (record { len = length-h large over lift; low = low-h })
+      (poly-mul p (prime-pos prime) (spec.pow p G k) (w p G g m part) ∙ 𝓑 .*-comm _ _ ∙ exact)
+    where
+      low : (j : ℕ) → getD (spec.mul p (spec.pow p G k) (w p G g m part)) j 0 < p
+      low = unfold spec.mul in low-reduce p (prime-pos prime) _
+
+      exact : poly p (w p G g m part) · poly p (spec.pow p G k) ≡ poly p h
+      exact = unfold w in
+          divides-exact p (prime-pos prime) (k *ℕ d) (spec.pow p G k) (power .reduced .len) (monic-poly power) h (top .divides)
+
+  m1-highest : spec.isZero h ≡ false → (v : spec.Poly) → spec.mul p (spec.pow p G (suc k)) v ≡ h → ⊥
+  m1-highest nonzero v e =
+      highest-power large over lift (λ z. subst T nonzero (isZero-poly p (prime-pos prime) h low-h z)) .exact (
+        poly p v,
+        𝓑 .*-comm _ _ ∙ ap (λ a. a · poly p v) (sym (poly-pow p (prime-pos prime) G (suc k)))
+            ∙ sym (poly-mul p (prime-pos prime) (spec.pow p G (suc k)) v) ∙ ap (poly p) e,
+      )
+
+  -- item 8
+  u-holds : m % p ≢ 0 → spec.scale p m (u p G g m part) ≡ w p G g m part
+  u-holds unit =
+      same-list
+      (record { len = length-scale p m (u p G g m part) ∙ length-u; low = low })
+      (record { len = refl; low = low-w })
+      (poly-scale p (prime-pos prime) m (u p G g m part) ∙ ap (λ a. a · poly p (u p G g m part)) (sym (number-constant p m))
+      ∙ divided)
+    where
+      low : (j : ℕ) → getD (spec.scale p m (u p G g m part)) j 0 < p
+      low = unfold spec.scale in low-reduce p (prime-pos prime) _
+
+      divided : number 𝓑 m · poly p (u p G g m part) ≡ poly p (w p G g m part)
+      divided = unfold u in number-divided p prime m unit (w p G g m part)
+
+      length-u : length (u p G g m part) ≡ length (w p G g m part)
+      length-u = unfold u in length-scale p (inverse p m) (w p G g m part)
+
+  pub values : claims.Values p G g m part
+  values = record { hHolds = h-holds; wHolds = w-holds; m1Highest = m1-highest; uHolds = u-holds }
