@@ -1,6 +1,6 @@
 -- The promises of documents 00 and 01 about every accepted sheet, as the claims of `specification` state them.
--- Proves term 3 of the answer's bytes and of a call, items 1 to 9, what is read off an answer, the degrees, the settings, the answer's size and bytes, which sheets are taken,
--- that inputs too long are refused, and the reader. Assumes nothing.
+-- Proves term 3 of the answer's bytes and of a call, items 1 to 9, what is read off an answer, the degrees, the settings, the answer's size and
+-- bytes, which sheets are taken, that inputs too long are refused, and the reader. Assumes nothing.
 use mathlib.Core.Path.{_≡_, refl, sym, _∙_, ap, subst}
 use mathlib.Core.Logic.{_↔_}
 use mathlib.Core.List.{List, [], _∷_}
