@@ -6,8 +6,8 @@ use Prim.Native.Nat.{ℕ, zero, suc}
 use native.Mathlib.Omega.{arith}
 use Rattle.algebra.specs.Ring.{CommRing, ring, mul-zero}
 use Rattle.algebra.specs.Identities.{_⊕_, _⊖_, _⊗_, _≈_, solve}
-use Rattle.algebra.specs.Divisibility.{_∣_, divides-refl, divides-mul, divides-add, divides-trans}
-use Rattle.algebra.specs.Polynomials.{Poly, PolyRing, _+_, _·_, -_, 𝟎, 𝟏, constant, constant-mul, constant-one, coef-constant-mul}
+use Rattle.algebra.specs.Divisibility.{_∣_, Coprime, divides-refl, divides-mul, divides-add, divides-trans}
+use Rattle.algebra.specs.Polynomials.{Poly, PolyRing, _+_, _·_, -_, 𝟎, 𝟏, constant, constant-unit, coef-constant-mul}
 use Rattle.algebra.specs.Degree.{Below, Monic, below-up, below-zero, below-constant-mul}
 use Rattle.algebra.specs.Leading.{Leading, leading, bound, divide, degree-below}
 use Rattle.algebra.specs.Fields.{Field}
@@ -22,21 +22,24 @@ module _ {R : Type 0} {𝓡 : CommRing R} where
     pub left : _∣_ (PolyRing 𝓡) gcd a
     pub right : _∣_ (PolyRing 𝓡) gcd b
 
+  pub bezout-coprime : {a b : Poly 𝓡} (z : Bezout a b) → z .gcd ≡ 𝟏 → Coprime (PolyRing 𝓡) a b
+  bezout-coprime z e = record { u = z .u; v = z .v; law = z .combination ∙ e }
+
   module _ (field : Field 𝓡) where
     -- a nonzero polynomial is a constant with an inverse times a monic one
-    pub record MonicMultiple (d : ℕ) (a : Poly 𝓡) : Type 0 where
-      pub c : Poly 𝓡
-      pub inverse : Poly 𝓡
-      pub unit : inverse · c ≡ 𝟏
-      pub monic : Monic d (c · a)
+    record MonicMultiple (d : ℕ) (a : Poly 𝓡) : Type 0 where
+      c : Poly 𝓡
+      inverse : Poly 𝓡
+      unit : inverse · c ≡ 𝟏
+      monic : Monic d (c · a)
 
-    pub monic-multiple : (a : Poly 𝓡) (t : Leading a) → MonicMultiple (t .degree) a
+    monic-multiple : (a : Poly 𝓡) (t : Leading a) → MonicMultiple (t .degree) a
     monic-multiple a t =
         let i = field .inverse (a .coef (t .degree)) (t .nonzero) in
         record {
           c = constant (i .0);
           inverse = constant (a .coef (t .degree));
-          unit = sym (constant-mul (a .coef (t .degree)) (i .0)) ∙ ap constant (i .1) ∙ constant-one 𝓡;
+          unit = constant-unit 𝓡 (i .1);
           monic = record {
             leading = coef-constant-mul (i .0) a (t .degree) ∙ 𝓡 .*-comm (i .0) (a .coef (t .degree)) ∙ i .1;
             below = below-constant-mul (i .0) (t .below);
@@ -84,7 +87,7 @@ module _ {R : Type 0} {𝓡 : CommRing R} where
             bezout-step a b (m .c) (m .inverse) (D .quotient) (D .remainder) (m .unit) (D .law)
             (f (m .c · b) (D .remainder) (below-up (omega (arith, degree-below t h)) (D .small)))
 
-    pub bezout : (a b : Poly 𝓡) → Bezout a b
+    bezout : (a b : Poly 𝓡) → Bezout a b
     bezout a b = let B = bound (field .decide) b in bezout-from (B .0) a b (B .1)
 
     -- Bézout with a monic divisor

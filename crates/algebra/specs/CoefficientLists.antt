@@ -74,7 +74,7 @@ module _ (n : ℕ) where
 
   -- ---- over the numbers
 
-  pub poly-plus : (f g : List ℕ) → poly n (spec.plus f g) ≡ poly n f + poly n g
+  poly-plus : (f g : List ℕ) → poly n (spec.plus f g) ≡ poly n f + poly n g
   unfolding spec.plus
   poly-plus [] g = sym (ap (λ a. a + poly n g) poly-nil ∙ (PolyRing (Residues n)) .+-zero (poly n g))
   poly-plus (a ∷ f) [] = sym (ap (λ b. poly n (a ∷ f) + b) poly-nil ∙ add-zero (PolyRing (Residues n)) (poly n (a ∷ f)))
@@ -85,7 +85,7 @@ module _ (n : ℕ) where
       (constant (residue n a)) (constant (residue n b)) x (poly n f) (poly n g)
       ∙ sym (ap₂ (λ c h. c + h) (poly-cons a f) (poly-cons b g))
 
-  pub poly-multiple : (c : ℕ) (f : List ℕ) → poly n (spec.multiple c f) ≡ constant (residue n c) · poly n f
+  poly-multiple : (c : ℕ) (f : List ℕ) → poly n (spec.multiple c f) ≡ constant (residue n c) · poly n f
   unfolding spec.multiple
   poly-multiple c [] = poly-nil ∙ sym (ap (λ a. constant (residue n c) · a) poly-nil ∙ mul-zero (PolyRing (Residues n)) _)
   poly-multiple c (a ∷ f) =
@@ -95,14 +95,14 @@ module _ (n : ℕ) where
       (constant (residue n c)) (constant (residue n a)) x (poly n f)
       ∙ sym (ap (λ h. constant (residue n c) · h) (poly-cons a f))
 
-  pub poly-shift : (f : List ℕ) → poly n (spec.shift f) ≡ x · poly n f
+  poly-shift : (f : List ℕ) → poly n (spec.shift f) ≡ x · poly n f
   unfolding spec.shift
   poly-shift [] = poly-nil ∙ sym (ap (λ a. x · a) poly-nil ∙ mul-zero (PolyRing (Residues n)) x)
   poly-shift (a ∷ f) =
       poly-cons 0 (a ∷ f) ∙ ap (λ c. c + x · poly n (a ∷ f)) (ap constant (residue-zero n) ∙ constant-zero (Residues n))
       ∙ (PolyRing (Residues n)) .+-zero (x · poly n (a ∷ f))
 
-  pub poly-times : (f g : List ℕ) → poly n (spec.times f g) ≡ poly n f · poly n g
+  poly-times : (f g : List ℕ) → poly n (spec.times f g) ≡ poly n f · poly n g
   unfolding spec.times
   poly-times [] g = poly-nil ∙ sym (ap (λ a. a · poly n g) poly-nil ∙ zero-mul (PolyRing (Residues n)) (poly n g))
   poly-times (a ∷ f) g =

@@ -142,13 +142,17 @@ module _ {R : Type 0} {𝓡 : CommRing R} where
   pub monic-one : Monic 0 𝟏
   monic-one = rw (← constant-one 𝓡) (record { leading = coef-constant-zero 𝓡 (𝓡 .𝟙); below = below-constant (𝓡 .𝟙) })
 
+  -- what is of degree 0 at most is constant
+  pub below-one : {a : Poly 𝓡} → Below 1 a → a ≡ constant (a .coef 0)
+  below-one {a} h = poly-ext at
+    where
+      at : (k : ℕ) → a .coef k ≡ (constant {𝓡 = 𝓡} (a .coef 0)) .coef k
+      at zero = sym (coef-constant-zero 𝓡 (a .coef 0))
+      at (suc k) = h .high (suc k) (omega arith) ∙ sym (coef-constant-suc 𝓡 (a .coef 0) k)
+
   -- the only monic polynomial of degree 0 is 𝟏
   pub monic-zero : {a : Poly 𝓡} → Monic 0 a → a ≡ 𝟏
-  monic-zero {a} m = poly-ext at ∙ constant-one 𝓡
-    where
-      at : (k : ℕ) → a .coef k ≡ (constant {𝓡 = 𝓡} (𝓡 .𝟙)) .coef k
-      at zero = m .leading ∙ sym (coef-constant-zero 𝓡 (𝓡 .𝟙))
-      at (suc k) = m .below .high (suc k) (omega arith) ∙ sym (coef-constant-suc 𝓡 (𝓡 .𝟙) k)
+  monic-zero m = below-one (m .below) ∙ ap constant (m .leading) ∙ constant-one 𝓡
 
   -- ---- powers
 

@@ -1,9 +1,9 @@
 -- Divisibility, coprimality (u·a + v·b = 1 for some u, v), powers and products of lists in a commutative ring.
--- Proves their laws, and Gauss's lemma. Assumes nothing.
+-- Proves their laws, that units cancel, and Gauss's lemma. Assumes nothing.
 use mathlib.Core.Path.{_≡_, refl, sym, _∙_, ap, ap₂}
 use mathlib.Core.List.{List, [], _∷_, _++_}
-use Prim.Native.Nat.{ℕ, zero, suc, _≤_, _-_, _+_ as _+ℕ_, _*_ as _*ℕ_}
-use native.Mathlib.Nat.{suc-add, zero-add as zero-addℕ, zero-mul as zero-mulℕ}
+use Prim.Native.Nat.{ℕ, zero, suc, _≤_, _<_, _-_, _+_ as _+ℕ_, _*_ as _*ℕ_}
+use native.Mathlib.Nat.{suc-add, zero-add as zero-addℕ, zero-mul as zero-mulℕ, mul-comm as mul-commℕ}
 use native.Mathlib.Omega.{arith}
 use Rattle.algebra.specs.Ring.{CommRing, ring, linear2, mul-one, one-mul, mul-assoc, zero-mul}
 use Rattle.algebra.specs.Identities.{con, _⊕_, _⊖_, _⊗_, ⊝_, _≈_, solve}
@@ -65,6 +65,23 @@ module _ {R : Type 0} (𝓡 : CommRing R) where
       ap (pow a) (let e : suc m *ℕ n ≡ n +ℕ m *ℕ n = omega arith in e) ∙ pow-add a n (m *ℕ n)
       ∙ ap (λ b. pow a n * b) (pow-mul a m n) ∙ sym (pow-suc (pow a n) m)
 
+  pub pow-swap : (a : R) (m n : ℕ) → pow (pow a m) n ≡ pow (pow a n) m
+  pow-swap a m n = sym (pow-mul a n m) ∙ ap (pow a) (mul-commℕ n m) ∙ pow-mul a m n
+
+  pub pow-of-zero : (n : ℕ) → 0 < n → pow 𝟘 n ≡ 𝟘
+  pow-of-zero zero l = absurd (omega arith)
+  pow-of-zero (suc n) l = pow-suc 𝟘 n ∙ zero-mul 𝓡 (pow 𝟘 n)
+
+  pub pow-of-one : (n : ℕ) → pow 𝟙 n ≡ 𝟙
+  pow-of-one zero = pow-zero 𝟙
+  pow-of-one (suc n) = pow-suc 𝟙 n ∙ 𝓡 .*-one (pow 𝟙 n) ∙ pow-of-one n
+
+  pub pow-of-product : (a b : R) (n : ℕ) → pow (a * b) n ≡ pow a n * pow b n
+  pow-of-product a b zero = rw (pow-zero (a * b), pow-zero a, pow-zero b) (sym (𝓡 .*-one 𝟙))
+  pow-of-product a b (suc n) =
+      rw (pow-suc (a * b) n, pow-suc a n, pow-suc b n, pow-of-product a b n)
+      (solve 𝓡 4 (λ a b c d. a ⊗ b ⊗ (c ⊗ d) ≈ a ⊗ c ⊗ (b ⊗ d)) tt a b (pow a n) (pow b n))
+
   -- ---- divisors
 
   pub divides-refl : (a : R) → a ∣ a
@@ -102,6 +119,11 @@ module _ {R : Type 0} (𝓡 : CommRing R) where
     linear2 𝓡 (neg 𝟙) 𝟙 e e′
         (solve 𝓡 5 (λ p q a b c. (q ⊖ p) ⊗ a ⊖ c ≈ ⊝ con 1 ⊗ (p ⊗ a ⊖ b) ⊕ con 1 ⊗ (q ⊗ a ⊖ (b ⊕ c))) tt p q a b c),
   )
+
+  -- only 𝟘 times a unit is 𝟘
+  pub unit-cancel : {a u v : R} → u * v ≡ 𝟙 → a * v ≡ 𝟘 → a ≡ 𝟘
+  unit-cancel {a} {u} {v} h e =
+      linear2 𝓡 (neg a) u h e (solve 𝓡 3 (λ a u v. a ⊖ con 0 ≈ ⊝ a ⊗ (u ⊗ v ⊖ con 1) ⊕ u ⊗ (a ⊗ v ⊖ con 0)) tt a u v)
 
   pub pow-divides : (a : R) {k n : ℕ} → k ≤ n → pow a k ∣ pow a n
   pow-divides a {k} {n} l = (pow a (n - k), sym (pow-add a (n - k) k) ∙ ap (pow a) (let e : n - k +ℕ k ≡ n = omega arith in e))

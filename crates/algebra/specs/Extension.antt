@@ -18,7 +18,7 @@ use Rattle.algebra.specs.Residues.{
   residue-value,
   residue-self,
   value-residue,
-  same-remainder,
+  zero-remainder,
 }
 use Rattle.algebra.specs.Polynomials.{Poly, PolyRing, constant, each, poly-ext, coef-zero, coef-constant-mul, constant-mul, constant-zero}
 use Rattle.algebra.specs.Homomorphisms.{Homomorphism, map-poly, map-homomorphism, map-constant}
@@ -47,7 +47,7 @@ zero-value : (n : ℕ) → 0 < n → (Residues n) .𝟘 .value ≡ 0
 zero-value n pos = ap (λ (a : ℤ/ n). a .value) (sym (residue-zero n)) ∙ value-residue n pos 0 ∙ zero-mod n
 
 module _ (p : ℕ) (pos : 0 < p) where
-  pub square-pos : 0 < p *ℕ p
+  square-pos : 0 < p *ℕ p
   square-pos = mul-pos pos pos
 
   pub bar-residue : (k : ℕ) → bar p (residue (p *ℕ p) k) ≡ residue p k
@@ -76,8 +76,7 @@ module _ (p : ℕ) (pos : 0 < p) where
       sym (residue-value (p *ℕ p) a) ∙ ap (residue (p *ℕ p)) whole ∙ residue-mul (p *ℕ p) p (a .value / p)
     where
       gone : a .value % p ≡ 0
-      gone =
-          same-remainder p pos (a .value) 0 (unfold bar in e ∙ sym (residue-zero p)) ∙ zero-mod p
+      gone = zero-remainder p pos (a .value) (unfold bar in e)
 
       whole : a .value ≡ p *ℕ (a .value / p)
       whole = omega (arith, gone, div-add-mod (a .value) p)
@@ -90,10 +89,8 @@ module _ (p : ℕ) (pos : 0 < p) where
 
       multiple : p *ℕ a .value % (p *ℕ p) ≡ 0
       multiple =
-          same-remainder (p *ℕ p) square-pos (p *ℕ a .value) 0
-          (residue-mul (p *ℕ p) p (a .value)
-          ∙ ap ((Residues (p *ℕ p)) .mul (residue (p *ℕ p) p)) (residue-value (p *ℕ p) a) ∙ e ∙ sym (residue-zero (p *ℕ p)))
-          ∙ zero-mod (p *ℕ p)
+          zero-remainder (p *ℕ p) square-pos (p *ℕ a .value)
+          (residue-mul (p *ℕ p) p (a .value) ∙ ap ((Residues (p *ℕ p)) .mul (residue (p *ℕ p) p)) (residue-value (p *ℕ p) a) ∙ e)
 
       divided : a .value ≡ p *ℕ q
       divided = eq-of-mul-eq-mul-left p pos (a .value) (p *ℕ q) (omega (arith, multiple, div-add-mod (p *ℕ a .value) (p *ℕ p)))

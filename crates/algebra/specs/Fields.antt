@@ -4,7 +4,7 @@ use mathlib.Core.Path.{_≡_, sym, _∙_, ap, subst}
 use mathlib.Core.Bool.{Bool, not, _&&_}
 use mathlib.Core.Logic.{_⊎_, inl, inr, _≢_}
 use Prim.Native.Nat.{ℕ, zero, suc, _+_ as _+ℕ_, _*_ as _*ℕ_, _-_, _<_, _≤_, _%_, _/_}
-use native.Mathlib.Nat.{mod-lt, div-add-mod, pos-of-ne-zero, eq-or-lt-of-le, mod-eq-of-lt, zero-mod}
+use native.Mathlib.Nat.{mod-lt, div-add-mod, pos-of-ne-zero, eq-or-lt-of-le, mod-eq-of-lt}
 use native.Mathlib.Decide.{ℕ-discrete}
 use native.Mathlib.Omega.{arith}
 use lib.Dec.{T, eqb, leb, leb→le}
@@ -12,6 +12,7 @@ use Rattle.specification.specs.Limits.{primes, taken}
 use Rattle.specification.specs.Lists.{all, upFrom}
 use Rattle.algebra.specs.Ring.{CommRing, zero-mul, neg-zero, add-zero as add-𝟘}
 use Rattle.algebra.specs.Identities.{_⊕_, _⊖_, _⊗_, ⊝_, _≈_, solve}
+use Rattle.algebra.specs.Divisibility.{unit-cancel}
 use Rattle.algebra.specs.Residues.{
   ℤ/,
   residue,
@@ -24,7 +25,7 @@ use Rattle.algebra.specs.Residues.{
   residue-value,
   residue-self,
   value-below,
-  same-remainder,
+  zero-remainder,
 }
 use Rattle.algebra.specs.Tests.{left, right}
 use Rattle.algebra.specs.ListLaws.{all-member, member-passes, upFrom-has}
@@ -35,12 +36,20 @@ pub record Field {R : Type 0} (𝓡 : CommRing R) : Type 0 where
   pub inverse : (a : R) → a ≢ 𝓡 .𝟘 → (b : R) × (𝓡 .mul a b ≡ 𝓡 .𝟙)
   pub one-ne-zero : 𝓡 .𝟙 ≢ 𝓡 .𝟘
 
+-- what is not 𝟘 cancels
+pub field-cancel : {R : Type 0} {𝓡 : CommRing R} → Field 𝓡 → {x y : R} → x ≢ 𝓡 .𝟘 → 𝓡 .mul x y ≡ 𝓡 .𝟘 → y ≡ 𝓡 .𝟘
+field-cancel {𝓡 = 𝓡} field {x} {y} n e =
+    let (i, h) = field .inverse x n in unit-cancel 𝓡 (𝓡 .*-comm i x ∙ h) (𝓡 .*-comm y x ∙ e)
+
 pub record Prime (p : ℕ) : Type 0 where
   pub large : 1 < p
   pub undivided : (a : ℕ) → 1 < a → a < p → p % a ≢ 0
 
 pub prime-pos : {p : ℕ} → Prime p → 0 < p
 prime-pos P = let l = P .large in omega arith
+
+pub prime-suc : {p : ℕ} → Prime p → suc (p - 1) ≡ p
+prime-suc P = let l = P .large in omega arith
 
 pub residue-discrete : (n : ℕ) → Discrete (ℤ/ n)
 residue-discrete n a b = go (ℕ-discrete (a .value) (b .value))
@@ -52,8 +61,7 @@ residue-discrete n a b = go (ℕ-discrete (a .value) (b .value))
 -- more than one element
 pub residue-nontrivial : {n : ℕ} → 1 < n → (Residues n) .𝟙 ≢ (Residues n) .𝟘
 residue-nontrivial {n} l e =
-    let q = same-remainder n (omega arith) 1 0 (residue-one n ∙ e ∙ sym (residue-zero n)) in
-    omega (arith, q, mod-eq-of-lt l, zero-mod n)
+    omega (arith, zero-remainder n (omega arith) 1 (residue-one n ∙ e), mod-eq-of-lt l)
 
 module _ (p : ℕ) (P : Prime p) where
   infixl 60 _+_
@@ -100,10 +108,10 @@ module _ (p : ℕ) (P : Prime p) where
 -- ---- the primes that document 01 takes
 
 -- no number from 2 to p − 1 divides p
-unfoldable pub isPrime : ℕ → Bool
+unfoldable isPrime : ℕ → Bool
 isPrime p = leb 2 p && all (λ (a : ℕ). not (eqb (p % a) 0)) (upFrom 2 (p - 2))
 
-pub prime-by : (p : ℕ) → T (isPrime p) → Prime p
+prime-by : (p : ℕ) → T (isPrime p) → Prime p
 unfolding isPrime
 prime-by p t = record { large = leb→le 2 p (left (leb 2 p) _ t); undivided = undivided }
   where

@@ -1,5 +1,5 @@
 -- Homomorphisms of commutative rings, and what they do to polynomials, coefficient by coefficient.
--- Proves that they keep 𝟘, negatives, powers and products, and that the map on polynomials is one again. Assumes nothing.
+-- Proves that they keep 𝟘, negatives, powers and products, that the map on polynomials is one again, and so is `constant`. Assumes nothing.
 use mathlib.Core.Path.{_≡_, refl, sym, _∙_, ap, ap₂}
 use mathlib.Core.List.{List, [], _∷_, map}
 use Prim.Native.Nat.{ℕ, zero, suc}
@@ -21,6 +21,8 @@ use Rattle.algebra.specs.Polynomials.{
   coef-constant-suc,
   coef-tail,
   constant-one,
+  constant-add,
+  constant-mul,
 }
 use Rattle.algebra.specs.Degree.{Below, Monic}
 
@@ -28,6 +30,13 @@ pub record Homomorphism {R S : Type 0} (𝓡 : CommRing R) (𝓢 : CommRing S) (
   pub keeps-add : (a b : R) → φ (𝓡 .add a b) ≡ 𝓢 .add (φ a) (φ b)
   pub keeps-mul : (a b : R) → φ (𝓡 .mul a b) ≡ 𝓢 .mul (φ a) (φ b)
   pub keeps-one : φ (𝓡 .𝟙) ≡ 𝓢 .𝟙
+
+module _ {R : Type 0} (𝓡 : CommRing R) where
+  pub identity : Homomorphism 𝓡 𝓡 (λ a. a)
+  identity = record { keeps-add = λ a b. refl; keeps-mul = λ a b. refl; keeps-one = refl }
+
+  pub constants : Homomorphism 𝓡 (PolyRing 𝓡) constant
+  constants = record { keeps-add = constant-add; keeps-mul = constant-mul; keeps-one = constant-one 𝓡 }
 
 module _ {R S : Type 0} {𝓡 : CommRing R} {𝓢 : CommRing S} {φ : R → S} (h : Homomorphism 𝓡 𝓢 φ) where
   pub keeps-zero : φ (𝓡 .𝟘) ≡ 𝓢 .𝟘

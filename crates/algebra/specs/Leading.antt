@@ -21,7 +21,7 @@ module _ {R : Type 0} {𝓡 : CommRing R} where
     pub nonzero : a .coef degree ≢ 𝓡 .𝟘
     pub below : Below (suc degree) a
 
-  pub leading-nonzero : {a : Poly 𝓡} → Leading a → a ≢ 𝟎
+  leading-nonzero : {a : Poly 𝓡} → Leading a → a ≢ 𝟎
   leading-nonzero t e = t .nonzero (ap (λ b. b .coef (t .degree)) e ∙ coef-zero 𝓡 (t .degree))
 
   -- a bound lies above the leading term
@@ -61,7 +61,7 @@ module _ {R : Type 0} {𝓡 : CommRing R} where
     pub bound : (a : Poly 𝓡) → (n : ℕ) × Below n a
     bound a = ⊎-elim (λ e. (0, rw e (below-𝟎 0))) (λ t. (suc (t .degree), t .below)) (leading a)
 
-    pub is-zero : (a : Poly 𝓡) → Dec (a ≡ 𝟎)
+    is-zero : (a : Poly 𝓡) → Dec (a ≡ 𝟎)
     is-zero a = ⊎-elim (λ e. yes e) (λ t. no (leading-nonzero t)) (leading a)
 
     pub poly-discrete : Discrete (Poly 𝓡)

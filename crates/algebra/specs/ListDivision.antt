@@ -14,7 +14,7 @@ use Rattle.algebra.specs.Numbers.{lt-or-le}
 use Rattle.algebra.specs.Ring.{linear1, linear2, add-zero}
 use Rattle.algebra.specs.Identities.{con, _⊕_, _⊖_, _⊗_, ⊝_, _≈_, solve}
 use Rattle.algebra.specs.Divisibility.{_∣_}
-use Rattle.algebra.specs.Residues.{residue, Residues, residue-zero, same-remainder}
+use Rattle.algebra.specs.Residues.{residue, Residues, residue-zero, zero-remainder}
 use Rattle.algebra.specs.Polynomials.{PolyRing, _+_, _·_, -_, 𝟎, 𝟏, x, constant, poly-ext, coef-zero}
 use Rattle.algebra.specs.Degree.{Below, Monic, below-up, below-add, below-neg, below-factor, below-𝟎}
 use Rattle.algebra.specs.Division.{below-top, divided-unique}
@@ -64,9 +64,7 @@ isZero-poly n pos f h e = unfold spec.isZero in all-from (λ (a : ℕ). eqb a 0)
     zero-at : (k : ℕ) → getD f k 0 ≡ 0
     zero-at k =
         sym (mod-eq-of-lt (h k))
-        ∙ same-remainder n pos (getD f k 0) 0
-        (sym (coef-poly n f k) ∙ ap (λ a. a .coef k) e ∙ coef-zero (Residues n) k ∙ sym (residue-zero n))
-        ∙ mod-eq-of-lt pos
+        ∙ zero-remainder n pos (getD f k 0) (sym (coef-poly n f k) ∙ ap (λ a. a .coef k) e ∙ coef-zero (Residues n) k)
 
 -- ---- division by g, monic of degree d
 

@@ -1,6 +1,6 @@
 -- Laws of the specification's notions on lists: all, any, the first that passes a test, the numbers from b on, and when two are the same.
 -- Assumes nothing.
-use mathlib.Core.Path.{_≡_, refl, sym, ap₂, subst}
+use mathlib.Core.Path.{_≡_, refl, sym, ap, ap₂, subst}
 use mathlib.Core.Bool.{Bool, true, false, _||_}
 use mathlib.Core.List.{List, [], _∷_, List·Memᴰ, List·Memᴰ·cases-cons}
 use mathlib.Core.List.{List·Memᴰ·head as here, List·Memᴰ·tail as there}
@@ -71,6 +71,11 @@ member-passes test n (a ∷ l) m t =
     go false e m f = f m
 
 -- ---- b, b + 1, .., b + k − 1
+
+pub upFrom-length : (b k : ℕ) → length (upFrom b k) ≡ k
+unfolding upFrom
+upFrom-length b zero = refl
+upFrom-length b (suc k) = ap suc (upFrom-length (suc b) k)
 
 pub upFrom-member : (b k : ℕ) {a : ℕ} → List·Memᴰ a (upFrom b k) → (b ≤ a) × (a < b + k)
 unfolding upFrom

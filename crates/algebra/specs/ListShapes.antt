@@ -11,20 +11,20 @@ use lib.Seq.{getD-take}
 use Rattle.specification.specs.Polynomials.{plus, multiple, shift, times, reduce, add, scale, sub, mul}
 use Rattle.algebra.specs.Numbers.{lt-or-le}
 
-pub length-plus : (f g : List ℕ) → length g ≤ length f → length (plus f g) ≡ length f
+length-plus : (f g : List ℕ) → length g ≤ length f → length (plus f g) ≡ length f
 unfolding plus
 length-plus [] [] h = refl
 length-plus [] (b ∷ g) h = absurd (omega arith)
 length-plus (a ∷ f) [] h = refl
 length-plus (a ∷ f) (b ∷ g) h = ap suc (length-plus f g (omega arith))
 
-pub length-plus-right : (f g : List ℕ) → length f ≤ length g → length (plus f g) ≡ length g
+length-plus-right : (f g : List ℕ) → length f ≤ length g → length (plus f g) ≡ length g
 unfolding plus
 length-plus-right [] g h = refl
 length-plus-right (a ∷ f) [] h = absurd (omega arith)
 length-plus-right (a ∷ f) (b ∷ g) h = ap suc (length-plus-right f g (omega arith))
 
-pub length-multiple : (c : ℕ) (f : List ℕ) → length (multiple c f) ≡ length f
+length-multiple : (c : ℕ) (f : List ℕ) → length (multiple c f) ≡ length f
 unfolding multiple
 length-multiple c f = length-map f (λ (a : ℕ). c * a)
 
@@ -44,7 +44,7 @@ pub length-sub : (n : ℕ) (f g : List ℕ) → length g ≤ length f → length
 unfolding sub
 length-sub n f g h = length-add n f (scale n (n - 1) g) (omega (arith, length-scale n (n - 1) g))
 
-pub length-shift : (f : List ℕ) → 0 < length f → length (shift f) ≡ suc (length f)
+length-shift : (f : List ℕ) → 0 < length f → length (shift f) ≡ suc (length f)
 unfolding shift
 length-shift [] h = absurd (omega arith)
 length-shift (a ∷ f) h = refl

@@ -219,6 +219,9 @@ module _ {R : Type 0} {𝓡 : CommRing R} where
   constant-neg c =
       neg-unique (PolyRing 𝓡) (sym (constant-add c (𝓡 .neg c)) ∙ ap constant (add-neg 𝓡 c) ∙ constant-zero 𝓡)
 
+pub constant-unit : {R : Type 0} (𝓡 : CommRing R) {c e : R} → 𝓡 .mul c e ≡ 𝓡 .𝟙 → constant {𝓡 = 𝓡} c · constant e ≡ 𝟏
+constant-unit 𝓡 {c} {e} h = sym (constant-mul c e) ∙ ap constant h ∙ constant-one 𝓡
+
 -- the coefficients of sums, negatives and multiples by constants and x
 pub ruleset coefficients = (
   coef-add,

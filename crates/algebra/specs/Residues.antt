@@ -1,6 +1,7 @@
 -- The ring ℤ/n, as the numbers below n. It is taken for every n, with one element for n = 0, so that no statement
 -- carries a proof that n is positive. `residue n x` is the class of the number x.
--- Proves the ring laws, and that `residue n` turns sums and products of numbers into those of the ring. Assumes nothing.
+-- Proves the ring laws, that `residue n` turns sums and products of numbers into those of the ring, and that numbers of one class leave one
+-- remainder. Assumes nothing.
 use mathlib.Core.Path.{_≡_, refl, sym, _∙_, ap}
 use mathlib.Core.HLevel.{Σ-set, prop→set, isProp→PathP}
 use Prim.Native.Nat.{ℕ, suc, _+_ as _+ℕ_, _*_ as _*ℕ_, _-_, _%_, _<_, _≤_}
@@ -30,7 +31,7 @@ use Rattle.algebra.specs.Ring.{CommRing, neg-unique}
 abbrev pub positive : ℕ → ℕ
 positive n = suc (n - 1)
 
-pub positive-is : {n : ℕ} → 0 < n → positive n ≡ n
+positive-is : {n : ℕ} → 0 < n → positive n ≡ n
 positive-is h = omega arith
 
 pub record ℤ/ (n : ℕ) : Type 0 where
@@ -93,6 +94,10 @@ module _ (n : ℕ) where
   unfolding Residues
   residue-one = refl
 
+  -- the class of k + 1
+  pub residue-suc : (k : ℕ) → residue (suc k) ≡ 𝟙 + residue k
+  residue-suc k = ap residue (let e : suc k ≡ 1 +ℕ k = omega arith in e) ∙ residue-add 1 k ∙ ap (λ c. c + residue k) residue-one
+
   -- every class is that of its number
   pub residue-value : (a : ℤ/ n) → residue (a .value) ≡ a
   unfolding residue
@@ -123,3 +128,6 @@ module _ (n : ℕ) where
     -- numbers of one class leave the same remainder
     pub same-remainder : (x y : ℕ) → residue x ≡ residue y → x % n ≡ y % n
     same-remainder x y e = sym (value-residue x) ∙ ap (λ a. a .value) e ∙ value-residue y
+
+    pub zero-remainder : (x : ℕ) → residue x ≡ 𝟘 → x % n ≡ 0
+    zero-remainder x e = same-remainder x 0 (e ∙ sym residue-zero) ∙ zero-mod n

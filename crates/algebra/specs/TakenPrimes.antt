@@ -1,11 +1,11 @@
 -- Taken primes, as the contracts have them: `taken p ≡ true`.
--- Proves that a taken prime is prime, that it fits a byte, and that its square has 16 bits. Assumes nothing.
+-- Proves that a taken prime is prime, that it and the numbers below its square fit a byte, and that the square has 16 bits. Assumes nothing.
 use mathlib.Core.Path.{_≡_, sym, subst}
 use mathlib.Core.Bool.{true}
 use Prim.Native.Nat.{ℕ, _≤_, _<_, _*_}
 use native.Mathlib.Nat.{mul-le-mul}
 use native.Mathlib.Omega.{arith}
-use lib.Dec.{T, ltb, ltb→lt}
+use lib.Dec.{T, leb, ltb, leb→le, ltb→lt}
 use Rattle.specification.specs.Limits.{primes, taken}
 use Rattle.specification.specs.Lists.{all}
 use Rattle.algebra.specs.Fields.{Prime, taken-prime, prime-pos}
@@ -23,5 +23,10 @@ module _ {p : ℕ} (t : taken p ≡ true) where
   unfolding taken primes all
   fits-byte = ltb→lt p 256 (member-passes (λ q. ltb q 256) p primes (subst T (sym t) tt) tt)
 
+pub square-fits-byte : (p : ℕ) → taken p ≡ true → p * p ≤ 256
+unfolding taken primes all
+square-fits-byte p t = leb→le (p * p) 256 (member-passes (λ q. leb (q * q) 256) p primes (subst T (sym t) tt) tt)
+
+-- of every prime that fits a byte
 pub square-small : (p : ℕ) → taken p ≡ true → p * p ≤ 65025
 square-small p t = mul-le-mul {n₂ = 255} {m₂ = 255} (omega (arith, fits-byte t)) (omega (arith, fits-byte t))

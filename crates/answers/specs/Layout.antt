@@ -13,6 +13,7 @@ use Rattle.specification.specs.Parts as parts
 use Rattle.specification.specs.Totals.{listOf, total, different, freeDigits}
 use Rattle.specification.specs.Sheets.{coefficientBytes}
 use Rattle.specification.specs.Answers.{verdictNumber, factorBytes, partBytes, totalBytes}
+use Rattle.factorisation.specs.Members.{flatMap-append}
 use Rattle.theorems.specs.AnswerLayout.{answerBytes}
 use Rattle.verdicts.specs.declared.Verdict.{Verdict}
 use Rattle.verdicts.specs.declared.Verdict.the-variants.{Basic, Solid, Power, Split}
@@ -89,16 +90,11 @@ module _ (v : Verdict) (a b : Factor) where
 
 -- ---- the parts, one by one
 
-module _ {A B : Type 0} (g : A → List B) where
-  flatMap-append : (l m : List A) → flatMap g (l ++ m) ≡ flatMap g l ++ flatMap g m
-  unfolding flatMap
-  flatMap-append [] m = refl
-  flatMap-append (a ∷ l) m = ap (λ (r : List B). g a ++ r) (flatMap-append l m) ∙ sym (append-assoc (g a) (flatMap g l) (flatMap g m))
-
-  flatMap-next : (d : A) (l : List A) (i : ℕ) → i < length l → flatMap g (take (suc i) l) ≡ flatMap g (take i l) ++ g (getD l i d)
-  flatMap-next d l i u =
-      ap (flatMap g) (take-suc l i d u) ∙ flatMap-append (take i l) (getD l i d ∷ [])
-      ∙ ap (λ (r : List B). flatMap g (take i l) ++ r) (unfold flatMap in append-nil (g (getD l i d)))
+flatMap-next : {A B : Type 0} (g : A → List B) (d : A) (l : List A) (i : ℕ) → i < length l
+    → flatMap g (take (suc i) l) ≡ flatMap g (take i l) ++ g (getD l i d)
+flatMap-next g d l i u =
+    ap (flatMap g) (take-suc l i d u) ∙ flatMap-append g (take i l) (getD l i d ∷ [])
+    ∙ ap (λ r. flatMap g (take i l) ++ r) (unfold flatMap in append-nil (g (getD l i d)))
 
 -- a loop over an array writes what g makes of each entry; d is what is read past the array's end
 pub flat-turns : {A : Type 0} (g : A → List ℕ) (d : A) (xs : List A) (n : ℕ) → n ≤ length xs → Turns (λ i. flatMap g (take i xs)) (λ i. g (getD xs i d)) n

@@ -5,12 +5,13 @@ use mathlib.Core.Path.{_≡_, refl, sym, _∙_, ap}
 use mathlib.Core.List.{List, [], _∷_}
 use mathlib.Core.List.{List·Memᴰ·head as here}
 use Prim.Native.Nat.{ℕ, zero, suc}
-use Rattle.algebra.specs.Ring.{CommRing, zero-mul, add-zero, sub-self, eq-of-sub, linear1, linear2}
+use Rattle.algebra.specs.Ring.{CommRing, eq-of-sub, linear1, linear2}
 use Rattle.algebra.specs.Identities.{con, _⊕_, _⊖_, _⊗_, ⊝_, _≈_, solve}
 use Rattle.algebra.specs.Divisibility.{Coprime, pow, pow-zero, pow-one, pow-suc, product, product-nil, product-cons, coprime-one, coprime-mul}
 use Rattle.algebra.specs.Homomorphisms.{keeps-zero, keeps-neg, keeps-pow}
 use Rattle.algebra.specs.Extension.{Extension}
 use Rattle.factorisation.specs.Members.{All, all-tail}
+use Rattle.factorisation.specs.Kernel.{bar-sub, kernel-sub, kernel-multiple, bar-add-kernel}
 
 -- n·1
 unfoldable pub number : {R : Type 0} → CommRing R → ℕ → R
@@ -61,17 +62,14 @@ module _ {A B : Type 0} {𝓐 : CommRing A} {𝓑 : CommRing B} {bar : A → B} 
   bar-number (suc n) = rw (number-suc 𝓐 n, number-suc 𝓑 n, bar-add, bar-one, bar-number n)
 
   pub bar-π-mul : (a : A) → bar (π * a) ≡ 𝟎
-  bar-π-mul a = bar-mul π a ∙ ap (λ b. b ∗ bar a) (E .bar-π) ∙ zero-mul 𝓑 (bar a)
+  bar-π-mul a = kernel-multiple E a (E .bar-π)
 
   pub bar-add-π : (a b : A) → bar (a + π * b) ≡ bar a
-  bar-add-π a b = bar-add a (π * b) ∙ ap (λ c. bar a ∔ c) (bar-π-mul b) ∙ add-zero 𝓑 (bar a)
+  bar-add-π a b = bar-add-kernel E a (bar-π-mul b)
 
   -- the bar of g^n + π·h
   pub bar-pow-π : (g h : A) (n : ℕ) → bar (pow 𝓐 g n + π * h) ≡ pow 𝓑 (bar g) n
   bar-pow-π g h n = bar-add-π (pow 𝓐 g n) h ∙ bar-pow g n
-
-  bar-sub : (a b : A) → bar (a + neg b) ≡ bar a ∔ 𝓑 .neg (bar b)
-  bar-sub a b = bar-add a (neg b) ∙ ap (λ c. bar a ∔ c) (bar-neg b)
 
   -- ---- multiples of π
 
@@ -79,14 +77,14 @@ module _ {A B : Type 0} {𝓐 : CommRing A} {𝓑 : CommRing B} {bar : A → B} 
   pub difference : {a b : A} → bar a ≡ bar b → (c : A) × (a ≡ b + π * c)
   difference {a} {b} e = (
     E .part (a + neg b),
-    linear1 𝓐 𝟙 (E .kernel (a + neg b) (bar-sub a b ∙ sub-self 𝓑 e))
+    linear1 𝓐 𝟙 (E .kernel (a + neg b) (kernel-sub E e))
         (solve 𝓐 4 (λ a b π c. a ⊖ (b ⊕ π ⊗ c) ≈ con 1 ⊗ (a ⊖ b ⊖ π ⊗ c)) tt a b π (E .part (a + neg b))),
   )
 
   pub π-injective : {a b : A} → π * a ≡ π * b → bar a ≡ bar b
   π-injective {a} {b} e =
       eq-of-sub 𝓑
-      (sym (bar-sub a b)
+      (sym (bar-sub E a b)
       ∙ E .kill (a + neg b) (linear1 𝓐 𝟙 e (solve 𝓐 3 (λ a b π. π ⊗ (a ⊖ b) ⊖ con 0 ≈ con 1 ⊗ (π ⊗ a ⊖ π ⊗ b)) tt a b π)))
 
   pub π-equal : {a b : A} → bar a ≡ bar b → π * a ≡ π * b

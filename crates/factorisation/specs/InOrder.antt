@@ -1,6 +1,6 @@
 -- Lists in order: every member comes before all that follow it.
--- Proves that appending, mapping and flattening keep lists in order, and that two lists with the same members, both in order by a
--- strict order, are equal. Assumes nothing.
+-- Proves that appending, mapping and flattening keep lists in order, that numbers counted up are, and that two lists with the same members,
+-- both in order by a strict order, are equal. Assumes nothing.
 use mathlib.Core.Path.{_≡_, refl, sym, _∙_, ap₂, subst}
 use mathlib.Core.List.{
   List,
@@ -18,6 +18,9 @@ use mathlib.Core.List.{
 }
 use mathlib.Core.List.{List·Memᴰ·head as here, List·Memᴰ·tail as there}
 use mathlib.Core.Logic.{_⊎_, inl, inr, _≢_, ⊎-elim}
+use Prim.Native.Nat.{ℕ, zero, suc, _<_}
+use Rattle.specification.specs.Lists.{upFrom}
+use Rattle.algebra.specs.ListLaws.{upFrom-member}
 use Rattle.factorisation.specs.Members.{_∈_, All}
 
 abbrev pub InOrder : {A : Type 0} → (A → A → Type 0) → List A → Type 0
@@ -40,6 +43,11 @@ pub in-order-by : {A : Type 0} (R S : A → A → Type 0) (l : List A) → ((a b
 in-order-by R S [] h s = tt
 in-order-by R S (a ∷ l) h (first, s) =
     ((λ b i. h a b (here refl) (there i) (first b i)), in-order-by R S l (λ x y i j. h x y (there i) (there j)) s)
+
+pub upFrom-in-order : (b k : ℕ) → InOrder _<_ (upFrom b k)
+unfolding upFrom
+upFrom-in-order b zero = tt
+upFrom-in-order b (suc k) = ((λ a i. upFrom-member (suc b) k i .0), upFrom-in-order (suc b) k)
 
 -- ---- lists of lists
 

@@ -5,14 +5,13 @@ use mathlib.Core.Path.{_≡_, sym, _∙_, ap}
 use mathlib.Core.Logic.{_⊎_, inl, inr, _≢_, ⊎-elim}
 use Prim.Native.Nat.{ℕ, zero, suc, _≤_, _+_ as _+ℕ_}
 use native.Mathlib.Omega.{arith}
-use Rattle.algebra.specs.Ring.{CommRing, linear2}
-use Rattle.algebra.specs.Identities.{con, _⊖_, _⊕_, _⊗_, ⊝_, _≈_, solve}
+use Rattle.algebra.specs.Ring.{CommRing}
 use Rattle.algebra.specs.Divisibility.{_∣_, Coprime}
 use Rattle.algebra.specs.Polynomials.{Poly, PolyRing, _·_, 𝟎, 𝟏, coef-zero}
 use Rattle.algebra.specs.Degree.{Monic, coef-top, monic-one, monic-zero, monic-cancel}
 use Rattle.algebra.specs.Leading.{Leading, leading, monic-cofactor}
-use Rattle.algebra.specs.Fields.{Field}
-use Rattle.algebra.specs.Bezout.{MonicBezout, bezout-monic}
+use Rattle.algebra.specs.Fields.{Field, field-cancel}
+use Rattle.algebra.specs.Bezout.{MonicBezout, bezout-coprime, bezout-monic}
 use Rattle.factorisation.specs.PrimeElements.{PrimeElement}
 use Rattle.factorisation.specs.MonicDivisors.{monic-nonzero, divisor-degree}
 
@@ -24,25 +23,19 @@ pub record Irreducible {R : Type 0} {𝓡 : CommRing R} (G : Poly 𝓡) : Type 0
   pub noProduct : {d e : ℕ} {a b : Poly 𝓡} → Monic d a → Monic e b → 1 ≤ d → 1 ≤ e → a · b ≢ G
 
 module _ {R : Type 0} {𝓡 : CommRing R} (field : Field 𝓡) where
-  -- x·i = 1 and x·y = 0 give y = 0
-  field-cancel : {x y : R} → x ≢ 𝓡 .𝟘 → 𝓡 .mul x y ≡ 𝓡 .𝟘 → y ≡ 𝓡 .𝟘
-  field-cancel {x} {y} n e =
-      let (i, h) = field .inverse x n in
-      linear2 𝓡 (𝓡 .neg y) i h e (solve 𝓡 3 (λ x y i. y ⊖ con 0 ≈ ⊝ y ⊗ (x ⊗ i ⊖ con 1) ⊕ i ⊗ (x ⊗ y ⊖ con 0)) tt x y i)
-
   pub no-zero-divisors : (a b : Poly 𝓡) → a · b ≡ 𝟎 → (a ≡ 𝟎) ⊎ (b ≡ 𝟎)
   no-zero-divisors a b e = go (leading (field .decide) a) (leading (field .decide) b)
     where
       go : (a ≡ 𝟎) ⊎ Leading a → (b ≡ 𝟎) ⊎ Leading b → (a ≡ 𝟎) ⊎ (b ≡ 𝟎)
       go (inl z) t = inl z
       go (inr s) (inl z) = inr z
-      go (inr s) (inr t) = absurd (t .nonzero (field-cancel (s .nonzero) top))
+      go (inr s) (inr t) = absurd (t .nonzero (field-cancel field (s .nonzero) top))
         where
           top : 𝓡 .mul (a .coef (s .degree)) (b .coef (t .degree)) ≡ 𝓡 .𝟘
           top =
               sym (coef-top (s .below) (t .below)) ∙ ap (λ c. c .coef (s .degree +ℕ t .degree)) e ∙ coef-zero 𝓡 (s .degree +ℕ t .degree)
 
-  pub monic-divisor : {k : ℕ} {g G : Poly 𝓡} → Irreducible G → Monic k g → _∣_ (PolyRing 𝓡) g G → (g ≡ 𝟏) ⊎ (g ≡ G)
+  monic-divisor : {k : ℕ} {g G : Poly 𝓡} → Irreducible G → Monic k g → _∣_ (PolyRing 𝓡) g G → (g ≡ 𝟏) ⊎ (g ≡ G)
   monic-divisor {k = zero} I m d = inl (monic-zero m)
   monic-divisor {k = suc k} {g} {G} I m (u, e) = go (monic-cofactor (field .decide) (field .one-ne-zero) u g m (rw e (I .monic)))
     where
@@ -62,7 +55,7 @@ module _ {R : Type 0} {𝓡 : CommRing R} (field : Field 𝓡) where
       test a z = go (monic-divisor I (z .monic) (z .combined .left))
         where
           go : (z .combined .gcd ≡ 𝟏) ⊎ (z .combined .gcd ≡ G) → (_∣_ (PolyRing 𝓡) G a) ⊎ Coprime (PolyRing 𝓡) G a
-          go (inl e) = inr (record { u = z .combined .u; v = z .combined .v; law = z .combined .combination ∙ e })
+          go (inl e) = inr (bezout-coprime (z .combined) e)
           go (inr e) = inl (rw e at (z .combined .right))
 
   pub same-or-coprime : {G H : Poly 𝓡} → Irreducible G → Irreducible H → (G ≡ H) ⊎ Coprime (PolyRing 𝓡) G H

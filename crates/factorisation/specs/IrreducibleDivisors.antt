@@ -48,9 +48,9 @@ search-number (suc n) Q test = go (test n) (search-number n Q test)
 
 module _ {R : Type 0} {𝓡 : CommRing R} where
   record MonicDivisor (i : ℕ) (f : Poly 𝓡) : Type 0 where
-    pub divisor : Poly 𝓡
-    pub monic : Monic i divisor
-    pub divides : _∣_ (PolyRing 𝓡) divisor f
+    divisor : Poly 𝓡
+    monic : Monic i divisor
+    divides : _∣_ (PolyRing 𝓡) divisor f
 
   pub record IrreducibleDivisor (f : Poly 𝓡) : Type 0 where
     pub G : Poly 𝓡

@@ -1,6 +1,6 @@
 -- The kernel of a square-zero extension: the elements with bar 𝟘.
--- Proves that differences of elements with equal bars and multiples stay in it, that it adds nothing to a bar, and that a product of two of its
--- elements is 𝟘. Assumes nothing.
+-- Proves that it holds the differences of elements with equal bars and the multiples of its elements, that it adds nothing to a bar, and that a
+-- product of two of its elements is 𝟘. Assumes nothing.
 use mathlib.Core.Path.{_≡_, _∙_, ap, ap₂}
 use Rattle.algebra.specs.Ring.{CommRing, add-zero, mul-zero, zero-mul, sub-self}
 use Rattle.algebra.specs.Identities.{_⊗_, _≈_, solve}
@@ -13,8 +13,11 @@ module _ {A B : Type 0} {𝓐 : CommRing A} {𝓑 : CommRing B} {bar : A → B} 
   open CommRing 𝓐 using (add as _+_, mul as _*_, neg, 𝟘)
   open Extension E using (hom, π, part)
 
+  pub bar-sub : (a b : A) → bar (a + neg b) ≡ 𝓑 .add (bar a) (𝓑 .neg (bar b))
+  bar-sub a b = hom .keeps-add a (neg b) ∙ ap (𝓑 .add (bar a)) (keeps-neg hom b)
+
   pub kernel-sub : {a b : A} → bar a ≡ bar b → bar (a + neg b) ≡ 𝓑 .𝟘
-  kernel-sub {a} {b} e = hom .keeps-add a (neg b) ∙ ap (𝓑 .add (bar a)) (keeps-neg hom b) ∙ sub-self 𝓑 e
+  kernel-sub {a} {b} e = bar-sub a b ∙ sub-self 𝓑 e
 
   pub kernel-multiple : {a : A} (b : A) → bar a ≡ 𝓑 .𝟘 → bar (a * b) ≡ 𝓑 .𝟘
   kernel-multiple {a} b e = hom .keeps-mul a b ∙ ap (λ z. 𝓑 .mul z (bar b)) e ∙ zero-mul 𝓑 (bar b)

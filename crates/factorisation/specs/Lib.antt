@@ -4,6 +4,7 @@ pub mod Sums
 pub mod Distinct
 pub mod PrimeElements
 pub mod Monics
+pub mod Kernel
 pub mod ExtensionLaws
 pub mod Classes
 pub mod LongestLists
@@ -16,7 +17,6 @@ pub mod Irreducible
 pub mod IrreducibleDivisors
 pub mod Multiplicity
 pub mod UniqueFactorisation
-pub mod Kernel
 pub mod PolynomialExtension
 pub mod Lifting
 pub mod PrimaryParts

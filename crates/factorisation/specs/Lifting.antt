@@ -34,7 +34,7 @@ module _ {A B : Type 0} {𝓐 : CommRing A} {𝓑 : CommRing B} {bar : A → B} 
     pub multiplies : a · b ≡ f
 
   module _ (nontrivial : 𝓑 .𝟙 ≢ 𝓑 .𝟘) where
-    pub nontrivial-above : 𝓐 .𝟙 ≢ 𝓐 .𝟘
+    nontrivial-above : 𝓐 .𝟙 ≢ 𝓐 .𝟘
     nontrivial-above e = nontrivial (sym (E .hom .keeps-one) ∙ ap bar e ∙ keeps-zero (E .hom))
 
     -- x·y, where s·x + t·y = 1, misses f by z = f − x·y, whose bar is 𝟎. Divide z·t by x: it is q·x + r, and the bars of q and r are 𝟎 too.

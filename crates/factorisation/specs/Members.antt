@@ -1,9 +1,9 @@
 -- Membership in a list, `a ∈ l` (a place at which a stands), and `All`: a predicate holds of every member.
--- `replace`: two elements in place of a member. Proves that a member divides the product, and what the product of a list is
--- where two factors replace a member, and where all members are equal. Assumes nothing.
+-- `replace`: two elements in place of a member. Proves that a member divides the product, what the product of a list is where two
+-- factors replace a member and where all members are equal, and that flattening goes through ++. Assumes nothing.
 use mathlib.Core.Path.{_≡_, refl, subst, sym, _∙_, ap, ap₂}
 use mathlib.Core.Logic.{⊎-elim}
-use mathlib.Core.List.{List, [], _∷_, _++_, map, List·Memᴰ, List·Memᴰ·cases-cons, List·Memᴰ·append-cases, Memᴰ·of-map}
+use mathlib.Core.List.{List, [], _∷_, _++_, map, flatMap, append-assoc, List·Memᴰ, List·Memᴰ·cases-cons, List·Memᴰ·append-cases, Memᴰ·of-map}
 use mathlib.Core.List.{List·Memᴰ·head as here, List·Memᴰ·tail as there}
 use lib.ListN.{length, replicate}
 use Prim.Native.Nat.{ℕ, zero, suc}
@@ -44,6 +44,11 @@ all-replicate P a p (suc n) b i = all-cons p (all-replicate P a p n) b i
 
 pub all-map : {A C : Type 0} (P : C → Type 0) (f : A → C) (l : List A) → All (λ a. P (f a)) l → All P (map f l)
 all-map P f l h c i = let (a, j, e) = Memᴰ·of-map f l i in subst P e (h a j)
+
+pub flatMap-append : {A B : Type 0} (f : A → List B) (l m : List A) → flatMap f (l ++ m) ≡ flatMap f l ++ flatMap f m
+unfolding flatMap
+flatMap-append f [] m = refl
+flatMap-append f (a ∷ l) m = ap (λ r. f a ++ r) (flatMap-append f l m) ∙ sym (append-assoc (f a) (flatMap f l) (flatMap f m))
 
 -- the list with b, c in place of the member a
 unfoldable pub replace : {A : Type 0} {a : A} {l : List A} → a ∈ l → A → A → List A

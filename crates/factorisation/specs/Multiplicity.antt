@@ -1,6 +1,6 @@
 -- The multiplicity of G in a: the k for which a = w·G^k and G does not divide w.
--- Proves that G^j divides a exactly where j ≤ k, so that k is unique; that multiplicities add in products, for a prime element G; and that a
--- monic polynomial of degree 1 or more has a multiplicity in every a ≢ 𝟎, over any ring with decided equality. Assumes nothing.
+-- Proves that G^j divides a exactly where j ≤ k, so that k is unique; that G is coprime to w and multiplicities add in products, for a prime
+-- element G; and that a monic polynomial of degree 1 or more has a multiplicity in every a ≢ 𝟎, over any ring with decided equality. Assumes nothing.
 use mathlib.Core.Path.{_≡_, sym, _∙_, ap, ap₂}
 use mathlib.Core.Logic.{_≢_, ⊎-elim}
 use Prim.Native.Nat.{ℕ, zero, suc, _≤_, _+_ as _+ℕ_}
@@ -46,6 +46,9 @@ module _ {R : Type 0} {𝓡 : CommRing R} {G a : R} where
   multiplicity-unique cancel M N =
       le-antisymm (power-bound cancel N (power-divides M (omega arith))) (power-bound cancel M (power-divides N (omega arith)))
 
+pub rest-coprime : {R : Type 0} {𝓡 : CommRing R} {G a : R} → PrimeElement 𝓡 G → (M : Multiplicity 𝓡 G a) → Coprime 𝓡 G (M .w)
+rest-coprime prime M = ⊎-elim (λ d. absurd (M .stop d)) (λ c. c) (prime .test (M .w))
+
 module _ {R : Type 0} {𝓡 : CommRing R} {G a b : R} where
   abbrev in-product : PrimeElement 𝓡 G → Multiplicity 𝓡 G a → Multiplicity 𝓡 G b → Multiplicity 𝓡 G (𝓡 .mul a b)
   in-product prime M N = record {
@@ -54,11 +57,8 @@ module _ {R : Type 0} {𝓡 : CommRing R} {G a b : R} where
     law = ap (𝓡 .mul (𝓡 .mul (M .w) (N .w))) (pow-add 𝓡 G (M .k) (N .k))
         ∙ solve 𝓡 4 (λ v w x y. v ⊗ w ⊗ (x ⊗ y) ≈ v ⊗ x ⊗ (w ⊗ y)) tt (M .w) (N .w) (pow 𝓡 G (M .k)) (pow 𝓡 G (N .k))
         ∙ ap₂ (𝓡 .mul) (M .law) (N .law);
-    stop = coprime-not-divides prime (coprime-mul 𝓡 (coprime M) (coprime N));
+    stop = coprime-not-divides prime (coprime-mul 𝓡 (rest-coprime prime M) (rest-coprime prime N));
   }
-    where
-      coprime : {c : R} (M : Multiplicity 𝓡 G c) → Coprime 𝓡 G (M .w)
-      coprime M = ⊎-elim (λ d. absurd (M .stop d)) (λ c. c) (prime .test (M .w))
 
   pub multiplicity-mul : PrimeElement 𝓡 G → (M : Multiplicity 𝓡 G a) (N : Multiplicity 𝓡 G b) (P : Multiplicity 𝓡 G (𝓡 .mul a b))
       → P .k ≡ M .k +ℕ N .k

@@ -7,7 +7,7 @@ use native.Mathlib.Omega.{arith}
 use Rattle.algebra.specs.Ring.{mul-zero, mul-add, mul-left-comm}
 use Rattle.algebra.specs.Identities.{con, _⊕_, _⊗_, _≈_, solve}
 use Rattle.algebra.specs.Divisibility.{pow, pow-zero, pow-one, pow-suc}
-use Rattle.algebra.specs.Residues.{ℤ/, residue, Residues, residue-one}
+use Rattle.algebra.specs.Residues.{ℤ/, residue, Residues, residue-one, residue-suc}
 use Rattle.algebra.specs.Polynomials.{
   Poly,
   PolyRing,
@@ -29,7 +29,6 @@ use Rattle.algebra.specs.Polynomials.{
   constant-one,
 }
 use Rattle.algebra.specs.Degree.{Below}
-use Rattle.frobenius.specs.Frobenius.{residue-suc}
 
 module _ {n : ℕ} where
   unfoldable pub derivative : Poly (Residues n) → Poly (Residues n)
@@ -137,7 +136,7 @@ module _ {n : ℕ} where
       ∙ agree-next (rest (a .coef 0) (tail a) b) _ _ k (product-at k (tail a) b)
       ∙ sym (ap (λ f. f .coef (suc k)) (right-side a b))
 
-  pub derivative-mul : (a b : Poly (Residues n)) → derivative (a · b) ≡ derivative a · b + a · derivative b
+  derivative-mul : (a b : Poly (Residues n)) → derivative (a · b) ≡ derivative a · b + a · derivative b
   derivative-mul a b = poly-ext (λ k. product-at k a b)
 
   pub derivative-pow : (a : Poly (Residues n)) (m : ℕ)

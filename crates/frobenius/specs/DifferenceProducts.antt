@@ -13,7 +13,7 @@ use Rattle.algebra.specs.Polynomials.{Poly, PolyRing, _+_, _·_, -_, 𝟎, 𝟏
 use Rattle.algebra.specs.Degree.{monic-zero, monic-one}
 use Rattle.algebra.specs.Leading.{poly-discrete}
 use Rattle.algebra.specs.Fields.{Field}
-use Rattle.algebra.specs.Bezout.{MonicBezout, bezout-monic}
+use Rattle.algebra.specs.Bezout.{MonicBezout, bezout-coprime, bezout-monic}
 use Rattle.factorisation.specs.Members.{_∈_}
 use Rattle.factorisation.specs.InOrder.{InOrder}
 use Rattle.factorisation.specs.MonicDivisors.{divisor-degree}
@@ -92,7 +92,7 @@ module _ {R : Type 0} {𝓡 : CommRing R} where
         go z = test (poly-discrete (field .decide) (z .combined .gcd) 𝟏)
           where
             test : Dec (z .combined .gcd ≡ 𝟏) → Dec (Coprime (PolyRing 𝓡) Q a)
-            test (yes e) = yes (record { u = z .combined .u; v = z .combined .v; law = z .combined .combination ∙ e })
+            test (yes e) = yes (bezout-coprime (z .combined) e)
             test (no n) = no (λ c. n (coprime-gcd z c))
 
     -- Q is coprime to the product, or to some v − c it is not

@@ -2,8 +2,6 @@
 -- Proves that the values at y are a homomorphism that takes x to y and a constant to itself, and that x − y divides a where the value at y
 -- is 𝟘. Over any ring with decided equality. Assumes nothing.
 use mathlib.Core.Path.{_≡_, refl, sym, _∙_, ap}
-use Prim.Native.Nat.{ℕ, zero, suc}
-use native.Mathlib.Omega.{arith}
 use Rattle.algebra.specs.Ring.{CommRing, zero-mul}
 use Rattle.algebra.specs.Divisibility.{_∣_, divides-refl}
 use Rattle.algebra.specs.Polynomials.{
@@ -15,15 +13,13 @@ use Rattle.algebra.specs.Polynomials.{
   𝟎,
   x,
   constant,
-  poly-ext,
   constant-one,
   constant-zero,
   constant-add,
   constant-mul,
   coef-constant-zero,
-  coef-constant-suc,
 }
-use Rattle.algebra.specs.Degree.{Below, Monic, below-neg, below-constant, monic-add, monic-x}
+use Rattle.algebra.specs.Degree.{Monic, below-neg, below-constant, below-one, monic-add, monic-x}
 use Rattle.algebra.specs.Leading.{divide}
 use Rattle.algebra.specs.Homomorphisms.{Homomorphism}
 use Rattle.algebra.specs.Congruence.{
@@ -45,14 +41,6 @@ module _ {R : Type 0} {𝓡 : CommRing R} where
 
   pub monic-linear : (y : R) → Monic 1 (linear y)
   monic-linear y = monic-add monic-x (below-neg (below-constant y))
-
-  -- degree 0 at most
-  below-one : {a : Poly 𝓡} → Below 1 a → a ≡ constant (a .coef 0)
-  below-one {a} h = poly-ext at
-    where
-      at : (k : ℕ) → a .coef k ≡ (constant {𝓡 = 𝓡} (a .coef 0)) .coef k
-      at zero = sym (coef-constant-zero 𝓡 (a .coef 0))
-      at (suc k) = h .high (suc k) (omega arith) ∙ sym (coef-constant-suc 𝓡 (a .coef 0) k)
 
 module _ {R : Type 0} (𝓡 : CommRing R) (decide : Discrete R) (y : R) where
   unfoldable pub evaluate : Poly 𝓡 → R

@@ -3,14 +3,14 @@
 -- k·coefₖ (x + b)ⁿ = n·coefₖ₋₁ (x + b)ⁿ⁻¹ and k has an inverse; then x is a. Assumes nothing.
 use mathlib.Core.Path.{_≡_, sym, _∙_, ap, ap₂}
 use mathlib.Core.Logic.{_⊎_, inl, inr, _≢_, ⊎-elim}
-use Prim.Native.Nat.{ℕ, zero, suc, _<_, _-_, _+_ as _+ℕ_}
+use Prim.Native.Nat.{ℕ, zero, suc, _<_, _-_}
 use native.Mathlib.Nat.{eq-or-lt-of-le, mod-eq-of-lt, mul-one as mul-oneℕ}
 use native.Mathlib.Omega.{arith}
 use Rattle.algebra.specs.Numbers.{lt-or-le}
 use Rattle.algebra.specs.Ring.{CommRing, ring, add-mul, add-zero, linear3}
 use Rattle.algebra.specs.Identities.{con, _⊕_, _⊖_, _⊗_, ⊝_, _≈_, solve}
 use Rattle.algebra.specs.Divisibility.{pow, pow-zero, pow-suc}
-use Rattle.algebra.specs.Residues.{ℤ/, residue, Residues, residue-zero, residue-one, residue-add, residue-self, same-remainder}
+use Rattle.algebra.specs.Residues.{ℤ/, residue, Residues, residue-one, residue-suc, residue-self, zero-remainder}
 use Rattle.algebra.specs.Polynomials.{
   Poly,
   PolyRing,
@@ -29,7 +29,7 @@ use Rattle.algebra.specs.Polynomials.{
 }
 use Rattle.algebra.specs.Monomials.{x^, coef-power-low}
 use Rattle.algebra.specs.Degree.{Monic, monic-x, monic-add, below-constant, monic-pow, monic-pow-x}
-use Rattle.algebra.specs.Fields.{Prime, prime-pos, residue-field}
+use Rattle.algebra.specs.Fields.{Prime, prime-pos, prime-suc, residue-field}
 use Rattle.algebra.specs.Homomorphisms.{Homomorphism, keeps-zero, keeps-pow}
 use Rattle.frobenius.specs.Evaluation.{evaluate, evaluation, evaluate-x, evaluate-constant}
 
@@ -126,11 +126,6 @@ module _ {A : Type 0} (𝓐 : CommRing A) (b : A) where
 
 -- ---- a ring with a homomorphism from ℤ/p
 
--- the class of k + 1
-pub residue-suc : (n k : ℕ) → residue n (suc k) ≡ (Residues n) .add ((Residues n) .𝟙) (residue n k)
-residue-suc n k =
-    ap (residue n) (let e : suc k ≡ 1 +ℕ k = omega arith in e) ∙ residue-add n 1 k ∙ ap (λ c. (Residues n) .add c (residue n k)) (residue-one n)
-
 module _ {p : ℕ} (P : Prime p) {A : Type 0} {𝓐 : CommRing A} {ι : ℤ/ p → A} (h : Homomorphism (Residues p) 𝓐 ι) where
   infixl 60 _∔_
   infixl 70 _*_
@@ -154,9 +149,7 @@ module _ {p : ℕ} (P : Prime p) {A : Type 0} {𝓐 : CommRing A} {ι : ℤ/ p �
       (ι u, 𝓐 .*-comm (ι u) (number k) ∙ sym (h .keeps-mul (residue p k) u) ∙ ap ι e ∙ h .keeps-one)
     where
       nonzero : residue p k ≢ (Residues p) .𝟘
-      nonzero e =
-          let r = same-remainder p (prime-pos P) k 0 (e ∙ sym (residue-zero p)) in
-          omega (arith, r, mod-eq-of-lt s, mod-eq-of-lt (prime-pos P))
+      nonzero e = omega (arith, zero-remainder p (prime-pos P) k e, mod-eq-of-lt s)
 
   frobenius-suc : Discrete A → (n : ℕ) → suc n ≡ p → (a b : A) → pow 𝓐 (a ∔ b) (suc n) ≡ pow 𝓐 a (suc n) ∔ pow 𝓐 b (suc n)
   frobenius-suc decide n e a b = sym left ∙ ap at (linear-power 𝓐 b n gone) ∙ right
@@ -182,7 +175,4 @@ module _ {p : ℕ} (P : Prime p) {A : Type 0} {𝓐 : CommRing A} {ι : ℤ/ p �
           (evaluate-constant 𝓐 decide a (pow 𝓐 b (suc n)))
 
   pub frobenius : Discrete A → (a b : A) → pow 𝓐 (a ∔ b) p ≡ pow 𝓐 a p ∔ pow 𝓐 b p
-  frobenius decide a b = rw e at (frobenius-suc decide (p - 1) e a b)
-    where
-      e : suc (p - 1) ≡ p
-      e = let l = P .large in omega arith
+  frobenius decide a b = rw (prime-suc P) at (frobenius-suc decide (p - 1) (prime-suc P) a b)

@@ -16,13 +16,12 @@ use Rattle.algebra.specs.Polynomials.{
   _·_,
   -_,
   𝟎,
-  𝟏,
   constant,
   coef-zero,
   coef-constant-mul,
   constant-one,
   constant-neg,
-  constant-mul,
+  constant-unit,
 }
 use Rattle.algebra.specs.Monomials.{x^, coef-power-low}
 use Rattle.algebra.specs.Degree.{Below, Monic, below-up, below-down, below-constant-mul, monic-pow-x}
@@ -31,9 +30,6 @@ use Rattle.algebra.specs.Fields.{Field}
 use Rattle.frobenius.specs.LinearMaps.{apply, apply-multiple, apply-sub-multiple, apply-monomial}
 use Rattle.frobenius.specs.Span.{less, coef-less, Span, Slot, Clear, span-𝟎, span-add, span-multiple, span-row, span-clear, span-insert}
 use Rattle.frobenius.specs.Reduction.{Between, Stage, Reducing}
-
-constant-unit : {R : Type 0} (𝓡 : CommRing R) (c d : R) → 𝓡 .mul c d ≡ 𝓡 .𝟙 → constant {𝓡 = 𝓡} c · constant d ≡ 𝟏
-constant-unit 𝓡 c d e = sym (constant-mul c d) ∙ ap constant e ∙ constant-one 𝓡
 
 module _ {R : Type 0} {𝓡 : CommRing R} (t : ℕ → Poly 𝓡) (m o : ℕ) where
   -- w is monic of degree i and goes to 𝟎, and nothing of lower degree does, but 𝟎
@@ -75,7 +71,7 @@ module _ {R : Type 0} {𝓡 : CommRing R} (t : ℕ → Poly 𝓡) (m n o : ℕ) 
           whole : constant (𝓡 .neg d) · less 𝟎 (v .coef i) (t i) + constant (𝓡 .neg (𝓡 .𝟙)) · (t i + - u) ≡ u
           whole =
               rw (constant-neg d, constant-neg (𝓡 .𝟙), constant-one 𝓡)
-              (linear1 (PolyRing 𝓡) (t i) (constant-unit 𝓡 (v .coef i) d unit)
+              (linear1 (PolyRing 𝓡) (t i) (constant-unit 𝓡 unit)
               (solve (PolyRing 𝓡) 4 (λ d v t u. ⊝ d ⊗ (con 0 ⊖ v ⊗ t) ⊕ ⊝ con 1 ⊗ (t ⊖ u) ⊖ u ≈ t ⊗ (v ⊗ d ⊖ con 1)) tt
               (constant d) (constant (v .coef i)) (t i) u))
 
@@ -118,7 +114,7 @@ module _ {R : Type 0} {𝓡 : CommRing R} (t : ℕ → Poly 𝓡) (m n o : ℕ) 
             whole : t i + - u + constant (u .coef k) · r′ k ≡ t i
             whole =
                 rw row
-                (linear1 (PolyRing 𝓡) u (constant-unit 𝓡 c (u .coef k) unit)
+                (linear1 (PolyRing 𝓡) u (constant-unit 𝓡 unit)
                 (solve (PolyRing 𝓡) 4 (λ t u c a. t ⊖ u ⊕ a ⊗ (c ⊗ u) ⊖ t ≈ u ⊗ (c ⊗ a ⊖ con 1)) tt (t i) u (constant c) (constant (u .coef k))))
 
         spans-more : (v : Poly 𝓡) → Between o (suc i) v → Span r′ n (apply t m v)

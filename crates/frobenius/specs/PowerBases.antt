@@ -4,15 +4,15 @@
 use mathlib.Core.Path.{_≡_, sym, _∙_, ap, ap₂}
 use mathlib.Core.Logic.{_≢_, ⊎-elim}
 use Prim.Native.Nat.{ℕ, zero, suc, _<_, _≤_, _/_, _-_, _*_ as _*ℕ_}
-use native.Mathlib.Nat.{zero-mul, mod-eq-of-lt, div-add-mod, mul-pos, mul-comm}
+use native.Mathlib.Nat.{zero-mul, div-add-mod, mul-pos, mul-comm}
 use native.Mathlib.Omega.{arith}
 use Rattle.algebra.specs.Ring.{zero-mul as zero-mul-ring, linear2}
 use Rattle.algebra.specs.Identities.{con, _⊕_, _⊖_, _⊗_, _≈_, solve}
 use Rattle.algebra.specs.Divisibility.{_∣_, Coprime, pow-suc, pow-mul, divides-mul, divides-add}
-use Rattle.algebra.specs.Residues.{ℤ/, residue, Residues, residue-zero, same-remainder}
-use Rattle.algebra.specs.Polynomials.{Poly, PolyRing, _+_, _·_, 𝟎, constant, coef-zero, coef-constant-zero, constant-zero, constant-one, constant-mul}
+use Rattle.algebra.specs.Residues.{ℤ/, residue, Residues, zero-remainder}
+use Rattle.algebra.specs.Polynomials.{Poly, PolyRing, _+_, _·_, 𝟎, constant, coef-zero, coef-constant-zero, constant-zero, constant-unit}
 use Rattle.algebra.specs.Degree.{Monic, small-multiple, monic-cancel, monic-pow}
-use Rattle.algebra.specs.Fields.{Prime, prime-pos, residue-field}
+use Rattle.algebra.specs.Fields.{Prime, prime-pos, prime-suc, residue-field}
 use Rattle.factorisation.specs.MonicDivisors.{monic-antisym}
 use Rattle.factorisation.specs.Irreducible.{Irreducible, no-zero-divisors, irreducible-prime}
 use Rattle.frobenius.specs.FrobeniusPowers.{_^_}
@@ -39,7 +39,7 @@ module _ {p : ℕ} (P : Prime p) {G : Poly (Residues p)} (I : Irreducible G) whe
           positive = positive-quotient (I .degree / p) p (rw (degree-multiple P (I .monic) z) (I .positive))
 
           split : h · h ^ (p - 1) ≡ G
-          split = sym (pow-suc (PolyRing (Residues p)) h (p - 1)) ∙ ap (λ k. h ^ k) (let s : suc (p - 1) ≡ p = omega (arith, P .large) in s) ∙ e
+          split = sym (pow-suc (PolyRing (Residues p)) h (p - 1)) ∙ ap (λ k. h ^ k) (prime-suc P) ∙ e
 
   -- of lower degree than G, and not 𝟎
   coprime-derivative : Coprime (PolyRing (Residues p)) G (derivative G)
@@ -75,8 +75,7 @@ module _ {p : ℕ} (P : Prime p) {G : Poly (Residues p)} (I : Irreducible G) whe
               arith,
               div-add-mod (suc j) p,
               mul-comm p (suc j / p),
-              same-remainder p (prime-pos P) (suc j) 0 (exponent-zero z ∙ sym (residue-zero p)),
-              mod-eq-of-lt (prime-pos P),
+              zero-remainder p (prime-pos P) (suc j) (exponent-zero z),
             )
 
         whole : p *ℕ suc (suc j / p - 1) ≡ suc j
@@ -95,7 +94,7 @@ module _ {p : ℕ} (P : Prime p) {G : Poly (Residues p)} (I : Irreducible G) whe
     combination u unit =
         ap₂ (λ a b. coprime-derivative .u · a + coprime-derivative .v · constant u · b) (pow-suc (PolyRing (Residues p)) G j) (derivative-pow G j)
         ∙ linear2 (PolyRing (Residues p)) (G ^ j) (coprime-derivative .v · derivative G · G ^ j) (coprime-derivative .law)
-        (sym (constant-mul (residue p (suc j)) u) ∙ ap constant unit ∙ constant-one (Residues p))
+        (constant-unit (Residues p) unit)
         (solve (PolyRing (Residues p)) 7
         (λ a b g v w n u. a ⊗ (g ⊗ w) ⊕ b ⊗ u ⊗ (n ⊗ v ⊗ w) ⊖ w ≈ w ⊗ (a ⊗ g ⊕ b ⊗ v ⊖ con 1) ⊕ b ⊗ v ⊗ w ⊗ (n ⊗ u ⊖ con 1)) tt
         (coprime-derivative .u) (coprime-derivative .v) G (derivative G) (G ^ j) (constant (residue p (suc j))) (constant u))

@@ -5,29 +5,24 @@ use mathlib.Core.Logic.{_≢_}
 use Prim.Native.Nat.{ℕ, zero, suc, _<_}
 use native.Mathlib.Omega.{arith}
 use Rattle.algebra.specs.Residues.{ℤ/, Residues}
-use Rattle.algebra.specs.Polynomials.{Poly, _+_, -_, 𝟎, x, constant, coef-constant-zero, constant-zero}
-use Rattle.algebra.specs.Monomials.{x^}
+use Rattle.algebra.specs.Polynomials.{Poly, 𝟎, constant, coef-constant-zero, constant-zero}
 use Rattle.algebra.specs.Degree.{Below, Monic, below-up}
 use Rattle.algebra.specs.Fields.{Prime, residue-field}
 use Rattle.factorisation.specs.MonicDivisors.{monic-nonzero}
 use Rattle.frobenius.specs.LinearMaps.{apply, Remainders, kernel-divides, divides-kernel}
-use Rattle.frobenius.specs.FrobeniusPowers.{_^_, frobenius-prime, difference-images}
+use Rattle.frobenius.specs.FrobeniusPowers.{differenceImages, difference-images}
 use Rattle.frobenius.specs.Reduction.{Between}
 use Rattle.frobenius.specs.LeastDependency.{LeastDependency}
 use Rattle.frobenius.specs.SplittingElements.{SplittingElement}
 use Rattle.frobenius.specs.Unsplit.{Unsplit}
 
--- the images (x^q)^i − x^i of v ↦ v^q − v
-abbrev pub differenceImages : (p q : ℕ) → ℕ → Poly (Residues p)
-differenceImages p q i = (x ^ q) ^ i + - x^ i
-
 module _ {p : ℕ} (P : Prime p) {d : ℕ} {Q : Poly (Residues p)} (m : Monic d Q) where
-  module _ {t : ℕ → Poly (Residues p)} (H : Remainders d Q d t (differenceImages p p)) where
+  module _ {t : ℕ → Poly (Residues p)} (H : Remainders d Q d t (differenceImages p)) where
     pub dependency-splits : {i : ℕ} {v : Poly (Residues p)} → i < d → LeastDependency t d 1 i v → SplittingElement p d Q v
     dependency-splits {i} {v} l D = record {
       small = small;
       nonconstant = nonconstant;
-      fixed = rw (difference-images (frobenius-prime P) d v small) at (kernel-divides m H v (D .kernel));
+      fixed = rw (difference-images P d v small) at (kernel-divides m H v (D .kernel));
     }
       where
         small : Below d v
@@ -43,7 +38,7 @@ module _ {p : ℕ} (P : Prime p) {d : ℕ} {Q : Poly (Residues p)} (m : Monic d 
     pub injective-unsplit : ((v : Poly (Residues p)) → Between 1 d v → apply t d v ≡ 𝟎 → v ≡ 𝟎) → Unsplit p d Q
     injective-unsplit injective v small first h =
         injective v (record { below = small; base = base })
-        (divides-kernel m H v (rw (difference-images (frobenius-prime P) d v small) h))
+        (divides-kernel m H v (rw (difference-images P d v small) h))
       where
         base : (j : ℕ) → j < 1 → v .coef j ≡ (Residues p) .𝟘
         base zero l = first

@@ -7,9 +7,9 @@ use Prim.Native.Nat.{ℕ, zero, suc, _<_, _/_, _%_, _-_, _+_ as _+ℕ_, _*_ as _
 use native.Mathlib.Nat.{suc-mul, zero-mul, mod-lt, mod-eq-of-lt, div-add-mod, le-mul-of-pos-right, mul-le-mul-right, pos-of-ne-zero, mul-comm}
 use native.Mathlib.Decide.{ℕ-discrete}
 use native.Mathlib.Omega.{arith}
-use Rattle.algebra.specs.Ring.{linear2, add-zero, zero-add}
-use Rattle.algebra.specs.Identities.{con, _⊕_, _⊖_, _⊗_, ⊝_, _≈_, solve}
-use Rattle.algebra.specs.Residues.{residue, Residues, residue-zero, same-remainder}
+use Rattle.algebra.specs.Ring.{add-zero, zero-add}
+use Rattle.algebra.specs.Divisibility.{pow-of-product}
+use Rattle.algebra.specs.Residues.{Residues, zero-remainder}
 use Rattle.algebra.specs.Polynomials.{
   Poly,
   PolyRing,
@@ -29,8 +29,8 @@ use Rattle.algebra.specs.Polynomials.{
 }
 use Rattle.algebra.specs.Monomials.{x^, coef-shift-below, coef-shift}
 use Rattle.algebra.specs.Degree.{Monic}
-use Rattle.algebra.specs.Fields.{Prime, prime-pos, residue-field}
-use Rattle.frobenius.specs.FrobeniusPowers.{_^_, pow-of-product, frobenius-prime, power-constant}
+use Rattle.algebra.specs.Fields.{Prime, prime-pos, field-cancel, residue-field}
+use Rattle.frobenius.specs.FrobeniusPowers.{_^_, power-add, power-constant}
 use Rattle.frobenius.specs.Derivatives.{derivative, coef-derivative}
 
 module _ {p : ℕ} (P : Prime p) where
@@ -38,8 +38,8 @@ module _ {p : ℕ} (P : Prime p) where
   power-horner : (h : Poly (Residues p)) → h ^ p ≡ constant (h .coef 0) + x^ p · tail h ^ p
   power-horner h =
       ap (λ a. a ^ p) (head-tail h)
-      ∙ frobenius-prime P .adds (constant (h .coef 0)) (x · tail h)
-      ∙ ap₂ _+_ (power-constant (frobenius-prime P) (h .coef 0)) (pow-of-product (PolyRing (Residues p)) x (tail h) p)
+      ∙ power-add P (constant (h .coef 0)) (x · tail h)
+      ∙ ap₂ _+_ (power-constant P (h .coef 0)) (pow-of-product (PolyRing (Residues p)) x (tail h) p)
 
   power-first : (h : Poly (Residues p)) → (h ^ p) .coef 0 ≡ h .coef 0
   power-first h =
@@ -93,15 +93,8 @@ module _ {p : ℕ} (P : Prime p) where
   coefficient-off : (a : Poly (Residues p)) → derivative a ≡ 𝟎 → (k : ℕ) → k % p ≢ 0 → a .coef k ≡ (Residues p) .𝟘
   coefficient-off a e zero n = absurd (n (mod-eq-of-lt (prime-pos P)))
   coefficient-off a e (suc k) n =
-      let (u, h) = residue-field p P .inverse (residue p (suc k)) nonzero in
-      linear2 (Residues p) ((Residues p) .neg (a .coef (suc k))) u h gone
-      (solve (Residues p) 3 (λ m c u. c ⊖ con 0 ≈ ⊝ c ⊗ (m ⊗ u ⊖ con 1) ⊕ u ⊗ (m ⊗ c ⊖ con 0)) tt (residue p (suc k)) (a .coef (suc k)) u)
-    where
-      nonzero : residue p (suc k) ≢ (Residues p) .𝟘
-      nonzero z = n (same-remainder p (prime-pos P) (suc k) 0 (z ∙ sym (residue-zero p)) ∙ mod-eq-of-lt (prime-pos P))
-
-      gone : (Residues p) .mul (residue p (suc k)) (a .coef (suc k)) ≡ (Residues p) .𝟘
-      gone = sym (coef-derivative a k) ∙ ap (λ b. b .coef k) e ∙ coef-zero (Residues p) k
+      field-cancel (residue-field p P) (λ z. n (zero-remainder p (prime-pos P) (suc k) z))
+      (sym (coef-derivative a k) ∙ ap (λ b. b .coef k) e ∙ coef-zero (Residues p) k)
 
   -- a is the p-th power of h, which has the coefficients of a at the multiples of p
   pub power-of-root : (a h : Poly (Residues p)) → derivative a ≡ 𝟎 → ((i : ℕ) → h .coef i ≡ a .coef (i *ℕ p)) → h ^ p ≡ a

@@ -1,7 +1,7 @@
 -- Powers Q = G^m of one irreducible polynomial G.
 -- Proves that m times the degree of G is that of Q, and that a monic polynomial over ℤ/p with no splitting element is such a power. Assumes nothing.
 use mathlib.Core.Path.{_≡_, sym, _∙_, ap}
-use mathlib.Core.Logic.{_≢_, ⊎-elim}
+use mathlib.Core.Logic.{_≢_}
 use Prim.Native.Nat.{ℕ, zero, suc, _≤_, _+_ as _+ℕ_, _*_ as _*ℕ_}
 use native.Mathlib.Nat.{pos-of-ne-zero, mul-pos}
 use native.Mathlib.Omega.{arith}
@@ -14,7 +14,7 @@ use Rattle.algebra.specs.Leading.{monic-cofactor}
 use Rattle.algebra.specs.Fields.{Prime, residue-field, residue-discrete}
 use Rattle.factorisation.specs.MonicDivisors.{monic-nonzero, monic-degree}
 use Rattle.factorisation.specs.Irreducible.{Irreducible, irreducible-prime}
-use Rattle.factorisation.specs.Multiplicity.{Multiplicity, multiplicity}
+use Rattle.factorisation.specs.Multiplicity.{Multiplicity, rest-coprime, multiplicity}
 use Rattle.factorisation.specs.IrreducibleDivisors.{IrreducibleDivisor, irreducible-divisor}
 use Rattle.frobenius.specs.Unsplit.{Unsplit, unsplit-indivisible}
 
@@ -44,7 +44,7 @@ module _ {p : ℕ} (P : Prime p) {d : ℕ} {Q : Poly (Residues p)} (positive : 1
     coprime : Coprime (PolyRing (Residues p)) (M .w) (pow (PolyRing (Residues p)) (t .G) (M .k))
     coprime =
         coprime-pow (PolyRing (Residues p)) (M .k)
-        (⊎-elim (λ h. absurd (M .stop h)) (coprime-sym (PolyRing (Residues p))) (irreducible-prime (residue-field p P) (t .irreducible) .test (M .w)))
+        (coprime-sym (PolyRing (Residues p)) (rest-coprime (irreducible-prime (residue-field p P) (t .irreducible)) M))
 
     -- Q = w·G^k, and w is 𝟏, since it is coprime to G^k
     power-of-divisor : PrimaryPower Q

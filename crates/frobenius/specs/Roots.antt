@@ -5,27 +5,26 @@ use mathlib.Core.Path.{_≡_, refl, sym, _∙_, ap, ap₂, fun-ext}
 use mathlib.Core.Logic.{_≢_}
 use mathlib.Core.List.{List, [], _∷_, map, map-map, Memᴰ·cast, Memᴰ·map}
 use mathlib.Core.List.{List·Memᴰ·head as here}
-use Prim.Native.Nat.{ℕ, zero, suc, _<_}
+use Prim.Native.Nat.{ℕ, suc, _<_}
 use native.Mathlib.Nat.{mod-eq-of-lt}
 use native.Mathlib.Omega.{arith}
 use lib.ListN.{length, length-map}
 use Rattle.specification.specs.Lists.{upFrom}
-use Rattle.algebra.specs.Ring.{CommRing, sub-self, eq-of-sub, linear2}
-use Rattle.algebra.specs.Identities.{con, _⊖_, _⊕_, _⊗_, ⊝_, _≈_, solve}
-use Rattle.algebra.specs.Divisibility.{_∣_, product, product-nil, product-cons}
+use Rattle.algebra.specs.Ring.{CommRing, sub-self, eq-of-sub}
+use Rattle.algebra.specs.Divisibility.{_∣_, unit-cancel, product, product-nil, product-cons}
 use Rattle.algebra.specs.Residues.{ℤ/, residue, Residues, residue-value, value-below, same-remainder}
-use Rattle.algebra.specs.Polynomials.{Poly, PolyRing, _+_, _·_, -_, x, 𝟎, constant, constant-neg, constant-add, constant-mul, constant-one}
+use Rattle.algebra.specs.Polynomials.{Poly, PolyRing, _+_, _·_, -_, x, 𝟎, constant, constant-neg, constant-add, constant-unit}
 use Rattle.algebra.specs.Monomials.{x^}
 use Rattle.algebra.specs.Degree.{Monic, below-up, below-neg, monic-zero, monic-add, monic-x, monic-one, monic-pow-x}
 use Rattle.algebra.specs.Leading.{monic-cofactor, poly-discrete}
-use Rattle.algebra.specs.ListLaws.{upFrom-member, upFrom-has}
+use Rattle.algebra.specs.ListLaws.{upFrom-length, upFrom-member, upFrom-has}
 use Rattle.algebra.specs.Fields.{Field, Prime, prime-pos, residue-field, residue-discrete}
 use Rattle.algebra.specs.Homomorphisms.{keeps-neg, keeps-pow, keeps-product}
 use Rattle.factorisation.specs.Members.{_∈_, All, all-tail, all-map}
-use Rattle.factorisation.specs.InOrder.{InOrder, in-order-map, in-order-by}
+use Rattle.factorisation.specs.InOrder.{InOrder, in-order-map, in-order-by, upFrom-in-order}
 use Rattle.factorisation.specs.MonicDivisors.{monic-nonzero}
 use Rattle.frobenius.specs.Evaluation.{linear, monic-linear, evaluate, evaluation, evaluate-x, evaluate-constant, root-divides}
-use Rattle.frobenius.specs.FrobeniusPowers.{_^_, frobenius-prime, power-constant}
+use Rattle.frobenius.specs.FrobeniusPowers.{_^_, power-constant}
 
 -- c and d differ by a unit
 abbrev pub Apart : {R : Type 0} → CommRing R → R → R → Type 0
@@ -37,7 +36,7 @@ different-apart {𝓡 = 𝓡} field c d n =
     let (u, e) = field .inverse (𝓡 .add d (𝓡 .neg c)) (λ z. n (sym (eq-of-sub 𝓡 z))) in (
       constant u,
       ap (λ a. constant u · (constant d + a)) (sym (constant-neg c)) ∙ ap (λ a. constant u · a) (sym (constant-add d (𝓡 .neg c)))
-          ∙ sym (constant-mul u (𝓡 .add d (𝓡 .neg c))) ∙ ap constant (𝓡 .*-comm u (𝓡 .add d (𝓡 .neg c)) ∙ e) ∙ constant-one 𝓡,
+          ∙ constant-unit 𝓡 (𝓡 .*-comm u (𝓡 .add d (𝓡 .neg c)) ∙ e),
     )
 
 module _ {R : Type 0} (𝓡 : CommRing R) (decide : Discrete R) where
@@ -53,12 +52,10 @@ module _ {R : Type 0} (𝓡 : CommRing R) (decide : Discrete R) where
   -- a root of q·(x − c) that is apart from c is one of q
   other-root : (q : Poly 𝓡) (c d : R) → Apart 𝓡 c d → evaluate 𝓡 decide d (q · linear c) ≡ 𝟘 → evaluate 𝓡 decide d q ≡ 𝟘
   other-root q c d (u, unit) e =
-      let a = evaluate 𝓡 decide d q in
-      let h : a * (d ∔ neg c) ≡ 𝟘 = sym (evaluation 𝓡 decide d .keeps-mul q (linear c) ∙ ap (λ b. a * b) (evaluate-linear d c)) ∙ e in
-      linear2 𝓡 (neg a) u unit h
-      (solve 𝓡 3 (λ a u w. a ⊖ con 0 ≈ ⊝ a ⊗ (u ⊗ w ⊖ con 1) ⊕ u ⊗ (a ⊗ w ⊖ con 0)) tt a u (d ∔ neg c))
+      unit-cancel 𝓡 unit
+      (sym (evaluation 𝓡 decide d .keeps-mul q (linear c) ∙ ap (λ b. evaluate 𝓡 decide d q * b) (evaluate-linear d c)) ∙ e)
 
-  pub linear-factors : 𝟙 ≢ 𝟘 → (l : List R) (f : Poly 𝓡) → Monic (length l) f → All (λ c. evaluate 𝓡 decide c f ≡ 𝟘) l → InOrder (Apart 𝓡) l
+  linear-factors : 𝟙 ≢ 𝟘 → (l : List R) (f : Poly 𝓡) → Monic (length l) f → All (λ c. evaluate 𝓡 decide c f ≡ 𝟘) l → InOrder (Apart 𝓡) l
       → f ≡ product (PolyRing 𝓡) (map linear l)
   linear-factors nontrivial [] f m roots apart = monic-zero m ∙ sym (product-nil (PolyRing 𝓡))
   linear-factors nontrivial (c ∷ l) f m roots (first, apart) =
@@ -79,16 +76,6 @@ module _ {R : Type 0} (𝓡 : CommRing R) (decide : Discrete R) where
 
 -- ---- the residues modulo p
 
-upFrom-length : (b k : ℕ) → length (upFrom b k) ≡ k
-unfolding upFrom
-upFrom-length b zero = refl
-upFrom-length b (suc k) = ap suc (upFrom-length (suc b) k)
-
-upFrom-rising : (b k : ℕ) → InOrder _<_ (upFrom b k)
-unfolding upFrom
-upFrom-rising b zero = tt
-upFrom-rising b (suc k) = ((λ a i. upFrom-member (suc b) k i .0), upFrom-rising (suc b) k)
-
 -- all residues, each once
 unfoldable pub residues : (p : ℕ) → List (ℤ/ p)
 residues p = map (residue p) (upFrom 0 p)
@@ -98,7 +85,7 @@ module _ {p : ℕ} (P : Prime p) where
   unfolding residues
   residues-different =
       in-order-map (λ a b. (a < b) × (b < p)) (λ c d. c ≢ d) (residue p) (upFrom 0 p) different
-      (in-order-by _<_ (λ a b. (a < b) × (b < p)) (upFrom 0 p) (λ a b i j l. (l, omega (arith, upFrom-member 0 p j .1))) (upFrom-rising 0 p))
+      (in-order-by _<_ (λ a b. (a < b) × (b < p)) (upFrom 0 p) (λ a b i j l. (l, omega (arith, upFrom-member 0 p j .1))) (upFrom-in-order 0 p))
     where
       different : (a b : ℕ) → (a < b) × (b < p) → residue p a ≢ residue p b
       different a b (l, s) e =
@@ -138,7 +125,7 @@ module _ {p : ℕ} (P : Prime p) where
       linear-factors (PolyRing (Residues p)) decide (monic-nonzero (residue-field p P .one-ne-zero) monic-one) (map constant (residues p)) difference
       (rw (length-map (residues p) (constant {𝓡 = Residues p}) ∙ residues-length) monic-difference)
       (all-map (λ a. evaluate (PolyRing (Residues p)) decide a difference ≡ 𝟎) constant (residues p)
-      (λ c i. value (constant c) ∙ sub-self (PolyRing (Residues p)) (power-constant (frobenius-prime P) c)))
+      (λ c i. value (constant c) ∙ sub-self (PolyRing (Residues p)) (power-constant P c)))
       (in-order-map (λ c d. c ≢ d) (Apart (PolyRing (Residues p))) constant (residues p) (different-apart (residue-field p P)) residues-different)
 
   pub power-product : (v : Poly (Residues p))

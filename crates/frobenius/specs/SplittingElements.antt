@@ -26,7 +26,7 @@ use Rattle.algebra.specs.Degree.{
 }
 use Rattle.algebra.specs.Leading.{monic-cofactor}
 use Rattle.algebra.specs.Fields.{Field, Prime, residue-field}
-use Rattle.algebra.specs.Bezout.{MonicBezout}
+use Rattle.algebra.specs.Bezout.{MonicBezout, bezout-coprime}
 use Rattle.factorisation.specs.Members.{_∈_}
 use Rattle.factorisation.specs.InOrder.{InOrder}
 use Rattle.factorisation.specs.MonicDivisors.{monic-cancel-eq, monic-nonzero, divisor-degree}
@@ -77,7 +77,7 @@ module _ {R : Type 0} {𝓡 : CommRing R} where
     module _ {d : ℕ} {Q : Poly 𝓡} (positive : 1 ≤ d) (m : Monic d Q) (v : Poly 𝓡) (l : List R) (h : _∣_ (PolyRing 𝓡) Q (differences v l)) where
       common-constant : (c : R) × ((z : MonicBezout field Q (v + - constant c)) → z .combined .gcd ≢ 𝟏)
       common-constant =
-          ⊎-elim (λ k. absurd (unit k)) (λ (c, n). (c, λ z e. n (record { u = z .combined .u; v = z .combined .v; law = z .combined .combination ∙ e })))
+          ⊎-elim (λ k. absurd (unit k)) (λ (c, n). (c, λ z e. n (bezout-coprime (z .combined) e)))
           (some-common field Q v (monic-nonzero (field .one-ne-zero) m) l)
         where
           unit : Coprime (PolyRing 𝓡) Q (differences v l) → ⊥

@@ -13,7 +13,7 @@ use Rattle.algebra.specs.Polynomials.{Poly, PolyRing, _+_, _·_, -_, 𝟎, 𝟏
 use Rattle.algebra.specs.Degree.{Below, Monic, below-up, below-add, below-neg, below-constant, monic-one, small-multiple}
 use Rattle.algebra.specs.Division.{Divided}
 use Rattle.algebra.specs.Leading.{divide}
-use Rattle.algebra.specs.Fields.{Prime, residue-field, residue-discrete}
+use Rattle.algebra.specs.Fields.{Prime, prime-suc, residue-field, residue-discrete}
 use Rattle.algebra.specs.Congruence.{
   Congruent,
   congruent-equal,
@@ -26,7 +26,7 @@ use Rattle.algebra.specs.Congruence.{
   congruent-remainder,
 }
 use Rattle.factorisation.specs.MonicDivisors.{divisor-degree}
-use Rattle.frobenius.specs.FrobeniusPowers.{_^_, frobenius-prime, power-constant}
+use Rattle.frobenius.specs.FrobeniusPowers.{_^_, power-add, power-constant}
 use Rattle.frobenius.specs.SplittingElements.{CoprimeFactors}
 
 -- among the v of lower degree with constant term 𝟘 only 𝟎 is v^p modulo Q
@@ -88,10 +88,7 @@ module _ {p : ℕ} (P : Prime p) where
     power-r : Congruent (PolyRing (Residues p)) (A · B) (r ^ p) r
     power-r =
         congruent-trans (PolyRing (Residues p)) (congruent-pow (PolyRing (Residues p)) p (congruent-sym (PolyRing (Residues p)) remainder))
-        (congruent-trans (PolyRing (Residues p)) (rw z at (idempotent-power (PolyRing (Residues p)) c (p - 1))) remainder)
-      where
-        z : suc (p - 1) ≡ p
-        z = let l = P .large in omega arith
+        (congruent-trans (PolyRing (Residues p)) (rw (prime-suc P) at (idempotent-power (PolyRing (Residues p)) c (p - 1))) remainder)
 
     -- r without its constant term is a splitting element
     fixed : Congruent (PolyRing (Residues p)) (A · B) ((r + - constant (r .coef 0)) ^ p) (r + - constant (r .coef 0))
@@ -101,8 +98,7 @@ module _ {p : ℕ} (P : Prime p) where
       where
         power : (r + - constant (r .coef 0)) ^ p ≡ r ^ p + - constant (r .coef 0)
         power = rw (← constant-neg (r .coef 0))
-            ((frobenius-prime P) .adds r (constant ((Residues p) .neg (r .coef 0)))
-            ∙ ap (λ a. r ^ p + a) (power-constant (frobenius-prime P) ((Residues p) .neg (r .coef 0))))
+            (power-add P r (constant ((Residues p) .neg (r .coef 0))) ∙ ap (λ a. r ^ p + a) (power-constant P ((Residues p) .neg (r .coef 0))))
 
   unsplit-product : {d i j : ℕ} {A B : Poly (Residues p)} → 1 ≤ d → Monic d (A · B) → Monic i A → Monic j B → 1 ≤ i → 1 ≤ j
       → Coprime (PolyRing (Residues p)) A B → Unsplit p d (A · B) → ⊥

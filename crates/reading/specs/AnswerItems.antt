@@ -22,7 +22,7 @@ use Rattle.algebra.specs.Divisibility.{product}
 use Rattle.algebra.specs.Residues.{Residues}
 use Rattle.algebra.specs.Polynomials.{PolyRing}
 use Rattle.algebra.specs.CoefficientLists.{poly}
-use Rattle.factorisation.specs.Members.{All, all-cons, all-tail, all-append, all-map}
+use Rattle.factorisation.specs.Members.{All, all-cons, all-tail, all-append, all-map, flatMap-append}
 use Rattle.factorisation.specs.Sums.{member-le}
 use Rattle.theorems.specs.MonicLists.{MonicList, from-claims}
 use Rattle.theorems.specs.Factors.{degrees, powered, members-monic, poly-members}
@@ -32,11 +32,6 @@ use Rattle.theorems.specs.AllParts.{Known, known}
 use Rattle.theorems.specs.Term3.{term-3, sheets-taken}
 use Rattle.reading.specs.Items.{Item, head, one, itemBytes, factorsOf, FactorFits, Fits}
 use Rattle.reading.specs.Multiplying.{bytesOf, productOf}
-
-flatMap-append : {A B : Type 0} (f : A → List B) (l m : List A) → flatMap f (l ++ m) ≡ flatMap f l ++ flatMap f m
-unfolding flatMap
-flatMap-append f [] m = refl
-flatMap-append f (a ∷ l) m = ap (λ (r : List _). f a ++ r) (flatMap-append f l m) ∙ sym (append-assoc (f a) (flatMap f l) (flatMap f m))
 
 -- ---- the items of parts
 

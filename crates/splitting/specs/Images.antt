@@ -18,8 +18,7 @@ use Rattle.algebra.specs.Degree.{below-up, below-add, below-neg, monic-pow-x}
 use Rattle.algebra.specs.CoefficientLists.{ℤ[x]/, poly}
 use Rattle.algebra.specs.Congruence.{congruent-equal, congruent-add}
 use Rattle.frobenius.specs.LinearMaps.{Remainders}
-use Rattle.frobenius.specs.FrobeniusPowers.{_^_}
-use Rattle.frobenius.specs.PowerDependencies.{differenceImages}
+use Rattle.frobenius.specs.FrobeniusPowers.{_^_, differenceImages}
 use Rattle.modular.specs.Coefficients.{Represents, poly-unit, constant-residue-one, constant-residue-neg}
 use Rattle.quotients.specs.Remainder.{Remainder}
 use Rattle.dependency.specs.declared.Image.{Image}
@@ -27,7 +26,7 @@ use Rattle.dependency.specs.Dependency.{coefsOf, imageOf, Images}
 
 pub record PowerImages (p : ℕ) (q : List ℕ) (d i : ℕ) (images : List Image) : Type 0 where
   pub slots : length images ≡ 33
-  pub each : (k : ℕ) → k < i → Remainder p q d (coefsOf images k) (differenceImages p p k)
+  pub each : (k : ℕ) → k < i → Remainder p q d (coefsOf images k) (differenceImages p k)
 
 module _ {p : ℕ} {q : List ℕ} {d : ℕ} where
   pub images-none : {z : Image} → PowerImages p q d 0 (replicate 33 z)
@@ -36,7 +35,7 @@ module _ {p : ℕ} {q : List ℕ} {d : ℕ} where
   -- m is w − x^i; p − 1 stands for −1
   image-more : (i : ℕ) {w m : List ℕ} → 0 < p → i < d → Remainder p q d w (x^ p ^ i)
       → Represents p m (poly p w + constant (residue p (p - 1)) · (x^ i · poly p (1 ∷ replicate 32 0)))
-      → Remainder p q d m (differenceImages p p i)
+      → Remainder p q d m (differenceImages p i)
   image-more i {w} {m} pos l hw hm = record {
     reduced = hm .reduced;
     small = rw is (below-add (hw .small) (below-neg (below-up l (monic-pow-x i .below))));
@@ -71,7 +70,7 @@ module _ {p : ℕ} {q : List ℕ} {d : ℕ} where
       other : (k : ℕ) → k ≢ i → coefsOf (set images i image) k ≡ coefsOf images k
       other k ne = ap (λ (z : Image). z .coefs) (getD-set-other images i k image (record { coefs = [] }) ne)
 
-      at : (k : ℕ) → k < i +ℕ 1 → Dec (k ≡ i) → Remainder p q d (coefsOf (set images i image) k) (differenceImages p p k)
+      at : (k : ℕ) → k < i +ℕ 1 → Dec (k ≡ i) → Remainder p q d (coefsOf (set images i image) k) (differenceImages p k)
       at k u (yes e) = rw (e, here) (image-more i pos l hw hm)
       at k u (no ne) = rw (other k ne) (h .each k (omega (arith, ne)))
 
@@ -82,5 +81,5 @@ module _ {p : ℕ} {q : List ℕ} {d : ℕ} {images : List Image} (h : PowerImag
   pub images-given : Images p d images
   images-given = record { reduced = λ k l. h .each k l .reduced; small = λ k l. h .each k l .small }
 
-  pub difference-remainders : Remainders d (poly p q) d (imageOf p images) (differenceImages p p)
+  pub difference-remainders : Remainders d (poly p q) d (imageOf p images) (differenceImages p)
   difference-remainders = record { small = λ k l. h .each k l .small; same = λ k l. h .each k l .congruent }

@@ -17,16 +17,9 @@ use Rattle.algebra.specs.CoefficientLists.{Reduced}
 use Rattle.algebra.specs.ListLaws.{upFrom-member, upFrom-has}
 use Rattle.algebra.specs.ListShapes.{low-take}
 use Rattle.factorisation.specs.Members.{_∈_}
-use Rattle.factorisation.specs.InOrder.{InOrder, in-order-by, in-order-append, in-order-map, in-order-flatMap, mem-flatMap, flatMap-mem}
+use Rattle.factorisation.specs.InOrder.{InOrder, in-order-by, in-order-append, in-order-map, in-order-flatMap, upFrom-in-order, mem-flatMap, flatMap-mem}
 use Rattle.theorems.specs.MonicLists.{MonicList}
 use Rattle.theorems.specs.ListEnds.{then, last-again}
-
--- ---- 0, 1, .., p − 1
-
-upFrom-in-order : (b k : ℕ) → InOrder _<_ (upFrom b k)
-unfolding upFrom
-upFrom-in-order b zero = tt
-upFrom-in-order b (suc k) = ((λ a i. upFrom-member (suc b) k i .0), upFrom-in-order (suc b) k)
 
 -- ---- the polynomials of k coefficients
 
@@ -60,7 +53,7 @@ module _ (p : ℕ) (pos : 0 < p) where
       (polynomials-has k f (record { len = omega (arith, r .len); low = λ i. r .low (suc i) }))
       (Memᴰ·map (before f) (upFrom-has 0 p (omega arith) (omega (arith, r .low 0))))
 
-pub polynomials-in-order : (p k : ℕ) → InOrder Smaller (polynomials p k)
+polynomials-in-order : (p k : ℕ) → InOrder Smaller (polynomials p k)
 unfolding polynomials below
 polynomials-in-order p zero = ((λ f i. elim i [ ]), tt)
 polynomials-in-order p (suc k) =
