@@ -12,11 +12,10 @@ use Rattle.algebra.specs.Divisibility.{Coprime}
 use Rattle.algebra.specs.Residues.{Residues}
 use Rattle.algebra.specs.Polynomials.{PolyRing, _+_, _·_}
 use Rattle.algebra.specs.Degree.{Monic}
-use Rattle.algebra.specs.Homomorphisms.{monic-map}
 use Rattle.algebra.specs.CoefficientLists.{poly, Reduced}
 use Rattle.frobenius.specs.SplittingElements.{SplittingElement}
 use Rattle.frobenius.specs.Unsplit.{Unsplit}
-use Rattle.theorems.specs.Reductions.{coefficients, bar-poly}
+use Rattle.theorems.specs.Reductions.{bar-monic}
 use Rattle.modular.specs.Coefficients.{Represents, zeros}
 use Rattle.algebra.specs.TakenPrimes.{is-prime}
 use Rattle.splitting.specs.declared.Element.{Element}
@@ -55,12 +54,9 @@ module _ {p : ℕ} {f : List ℕ} {d : ℕ} (M : Monics p f d) where
   large : 1 < p
   large = is-prime (M .prime) .large
 
-  pub bar-monic : Monic d (poly p f)
-  bar-monic = subst (Monic d) (bar-poly p large f) (monic-map ((coefficients p large) .hom) (M .monic))
-
   module _ {q : List ℕ} (hq : Represents p q (poly p f)) where
     pub bar-is-monic : Monic d (poly p q)
-    bar-is-monic = rw (hq .is) bar-monic
+    bar-is-monic = rw (hq .is) (bar-monic p large f (M .monic))
 
     -- an element of the bar of f is one of the array that holds it
     pub bar-known : {e : Element} → Known p d (poly p f) e → Known p d (poly p q) e

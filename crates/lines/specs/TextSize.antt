@@ -1,7 +1,8 @@
 -- How long texts are: `Sized k bytes`, at most k bytes, each below 256.
 -- Proves that the lines for a good sheet are at most 54 bytes and 38 for each degree, and with them that 2,048 bytes are room for any text.
 -- Assumes nothing.
-use mathlib.Core.Path.{refl, subst}
+use mathlib.Core.Path.{_≡_, refl, subst}
+use mathlib.Core.Bool.{true}
 use mathlib.Core.List.{List, [], _∷_, _++_, flatMap}
 use mathlib.Core.List.{List·Memᴰ·head as here}
 use Prim.Native.Nat.{ℕ, _≤_, _<_, _+_, _*_}
@@ -9,8 +10,8 @@ use Prim.Native.String.{String}
 use native.Mathlib.Nat.{mul-le-mul-left, mul-le-mul-right}
 use native.Mathlib.Omega.{arith}
 use lib.ListN.{length, length-append}
-use lib.Dec.{T, leb, ltb, leb→le, ltb→lt}
-use Rattle.specification.specs.Limits.{primes, degreeLimit}
+use lib.Dec.{T, ltb, ltb→lt}
+use Rattle.specification.specs.Limits.{taken, degreeLimit}
 use Rattle.specification.specs.Lists.{all}
 use Rattle.specification.specs.Polynomials.{Poly, degree}
 use Rattle.specification.specs.Parts.{Verdict, basic, solid, power, split, Factor, Part}
@@ -30,10 +31,10 @@ use Rattle.specification.specs.Text.{
   refusalText,
 }
 use Rattle.specification.specs.Promises.{GoodSheet, sheetLimit}
-use Rattle.algebra.specs.Tests.{left, right}
+use Rattle.algebra.specs.Tests.{passes, left, right}
+use Rattle.algebra.specs.TakenPrimes.{fits-byte, square-fits-byte}
 use Rattle.factorisation.specs.Members.{All, all-cons, all-tail, all-append}
 use Rattle.factorisation.specs.Sums.{total as sum, total-one, member-le}
-use Rattle.theorems.specs.GoodSheets.{taken-passes}
 use Rattle.theorems.specs.AnswerLayout.{sheetParts}
 use Rattle.theorems.specs.AnswerSize.{Byte}
 use Rattle.theorems.specs.PartShapes.{partDegree, partDegrees, FactorShape, PartShape, total-bound, free-bound, different-bound}
@@ -136,13 +137,13 @@ module _ {n : ℕ} (small : n ≤ 256) where
 -- ---- the texts
 
 pub answer-sized : (s : Sheet) → GoodSheet s → Sized 2048 (answerText s)
-unfolding answerText primes all
+unfolding answerText
 answer-sized s g =
     let p : ℕ = s .prime in
-    let prime : p < 1000 = ltb→lt p 1000 (taken-passes (λ (q : ℕ). ltb q 1000) tt p (g .prime)) in
-    let square : p * p ≤ 256 = leb→le (p * p) 256 (taken-passes (λ (q : ℕ). leb (q * q) 256) tt p (g .prime)) in
+    let t : taken p ≡ true = passes (taken p) (g .prime) in
+    let prime : p < 1000 = omega (arith, fits-byte t) in
     let low : partDegrees (sheetParts s) ≤ degreeLimit = omega (arith, parts-degrees s g, g .fits) in
-    sized-within (omega arith) (sized-parts square p (degree (s .poly)) (sheetParts s) prime (omega (arith, g .fits)) (shapes s g) low)
+    sized-within (omega arith) (sized-parts (square-fits-byte p t) p (degree (s .poly)) (sheetParts s) prime (omega (arith, g .fits)) (shapes s g) low)
 
 pub refusal-sized : (k at : ℕ) → k ≤ 8 → at ≤ sheetLimit → Sized 2048 (refusalText k at)
 unfolding refusalText all

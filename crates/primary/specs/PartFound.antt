@@ -11,13 +11,12 @@ use Rattle.algebra.specs.Divisibility.{pow}
 use Rattle.algebra.specs.Residues.{Residues}
 use Rattle.algebra.specs.Polynomials.{PolyRing}
 use Rattle.algebra.specs.Degree.{Monic}
-use Rattle.algebra.specs.Homomorphisms.{monic-map}
 use Rattle.algebra.specs.Fields.{Prime, residue-field}
 use Rattle.algebra.specs.CoefficientLists.{poly}
 use Rattle.factorisation.specs.Irreducible.{Irreducible}
 use Rattle.frobenius.specs.Unsplit.{Unsplit}
 use Rattle.frobenius.specs.PrimaryPowers.{PrimaryPower, primary-degree, unsplit-power}
-use Rattle.theorems.specs.Reductions.{coefficients, bar-poly, digit-lift}
+use Rattle.theorems.specs.Reductions.{bar-monic, digit-lift}
 use Rattle.theorems.specs.PartForm.{PartOver, base-monic}
 use Rattle.theorems.specs.Recognised.{Found, FoundOver, splitFound}
 use Rattle.modular.specs.Coefficients.{Represents}
@@ -49,15 +48,15 @@ module _ {p : ℕ} {f q : List ℕ} {d : ℕ} (U : UnsplitPiece p f q d) where
   pub prime : Prime p
   prime = is-prime (U .prime)
 
-  bar-monic : Monic d (poly p f)
-  bar-monic = subst (Monic d) (bar-poly p (prime .large) f) (monic-map ((coefficients p (prime .large)) .hom) (U .monic .monic))
+  monic-bar : Monic d (poly p f)
+  monic-bar = bar-monic p (prime .large) f (U .monic .monic)
 
   pub q-monic : Monic d (poly p q)
-  q-monic = subst (Monic d) (sym (U .bar .is)) bar-monic
+  q-monic = subst (Monic d) (sym (U .bar .is)) monic-bar
 
   -- the bar is a power of one irreducible polynomial
   power : PrimaryPower (poly p q)
-  power = rw (U .bar .is) (unsplit-power prime (U .positive) bar-monic (U .unsplit))
+  power = rw (U .bar .is) (unsplit-power prime (U .positive) monic-bar (U .unsplit))
 
   module _ {g : Base} (B : BaseFound p d q g) where
     degree-is : power .m *ℕ g .degree ≡ d

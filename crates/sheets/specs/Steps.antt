@@ -26,7 +26,8 @@ use Rattle.specification.specs.Sheets.{
 }
 use Rattle.sheets.specs.declared.Step.{Step}
 use Rattle.sheets.specs.declared.Step.the-variants.{Taken, Fault}
-use Rattle.sheets.specs.Transitions.{afterCommand, readPart, reads-on, reads-wrong, reads-end}
+use Rattle.theorems.specs.SheetSteps.{afterCommand}
+use Rattle.sheets.specs.Transitions.{readPart, reads-on, reads-wrong, reads-end}
 
 -- ---- what a step says
 

@@ -15,7 +15,8 @@ use Rattle.sheets.specs.declared.SheetRead.{SheetRead}
 use Rattle.sheets.specs.declared.Step.{Step}
 use Rattle.sheets.specs.declared.Step.the-variants.{Taken, Fault}
 use Rattle.sheets.specs.Views.{sheetRead, refusal, polyIn, Held}
-use Rattle.sheets.specs.Transitions.{afterCommand, readPart}
+use Rattle.theorems.specs.SheetSteps.{afterCommand}
+use Rattle.sheets.specs.Transitions.{readPart}
 use Rattle.sheets.specs.Steps.{CommandRead, IndexRead, ValueRead}
 use Rattle.sheets.specs.HeldArrays.{zeros, degree-in, held-set, poly-set, held-first, poly-first}
 

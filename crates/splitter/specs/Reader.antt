@@ -4,19 +4,17 @@ use mathlib.Core.Path.{_≡_, sym, _∙_, ap}
 use mathlib.Core.Bool.{true, false, true≢false, false≢true}
 use mathlib.Core.List.{List, _++_}
 use mathlib.Core.Logic.{_≢_}
-use Prim.Native.Nat.{ℕ, _≤_, _<_, _*_ as _*ℕ_}
+use Prim.Native.Nat.{ℕ, _≤_, _<_}
 use native.Mathlib.Omega.{arith}
-use lib.Dec.{leb, leb→le}
 use lib.ListN.{length, getD, take, drop}
 use lib.Seq.{getD-take, length-take-le, ext-getD, take-append-seam}
 use borrow.Author.Tests.{lt-ltb}
-use Rattle.specification.specs.Lists.{all}
-use Rattle.specification.specs.Limits.{primes, answerArea}
+use Rattle.specification.specs.Limits.{answerArea}
 use Rattle.specification.specs.Sheets.{Sheet, sheetOf, sheetBytes}
 use Rattle.specification.specs.Answers.{answer}
 use Rattle.specification.specs.Calls as calls
 use Rattle.specification.specs.Promises.{GoodSheet}
-use Rattle.theorems.specs.GoodSheets.{taken-passes}
+use Rattle.algebra.specs.TakenPrimes.{square-fits-byte}
 use Rattle.theorems.specs.SheetsRead.{read-is-good}
 use Rattle.theorems.specs.SheetsBothWays.{written-is-read}
 use Rattle.theorems.specs.Term3.{reader-exact, reader-refuses}
@@ -78,6 +76,4 @@ module _ (area : ℕ) (bytes : List ℕ) (l : answerArea ≤ area) {c : Candidat
 
 -- a value is one byte
 pub entry-byte : {p : ℕ} {f : List ℕ} {d : ℕ} → Monics p f d → (k : ℕ) → k < d → getD f k 0 < 256
-unfolding primes all
-entry-byte {p} {f} m k l =
-    omega (arith, m .reduced .low k, leb→le (p *ℕ p) 256 (taken-passes (λ (q : ℕ). leb (q *ℕ q) 256) tt p (rw (m .prime) tt)))
+entry-byte {p} m k l = omega (arith, m .reduced .low k, square-fits-byte p (m .prime))

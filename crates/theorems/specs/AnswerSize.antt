@@ -1,6 +1,7 @@
 -- How large an answer is, where its parts have the shape `PartShape n`: a part of degree D takes at most 10·D bytes.
 -- Proves that the answer to a good sheet fits the answer area of 384 bytes, and that every byte of it is below 256. Assumes nothing.
-use mathlib.Core.Path.{refl, ap}
+use mathlib.Core.Path.{_≡_, refl, ap}
+use mathlib.Core.Bool.{true}
 use mathlib.Core.List.{List, [], _∷_, _++_, flatMap}
 use mathlib.Core.List.{List·Memᴰ·head as here}
 use Prim.Native.Nat.{ℕ, zero, suc, _≤_, _<_, _+_, _*_}
@@ -8,20 +9,19 @@ use native.Mathlib.Nat.{mul-le-mul-left, mul-le-mul-right}
 use native.Mathlib.Omega.{arith}
 use lib.ListN.{length, getD, length-append}
 use lib.Seq.{getD-take}
-use lib.Dec.{leb, ltb, leb→le, ltb→lt}
-use Rattle.specification.specs.Limits.{primes, degreeLimit, answerArea}
-use Rattle.specification.specs.Lists.{all}
+use Rattle.specification.specs.Limits.{taken, degreeLimit, answerArea}
 use Rattle.specification.specs.Polynomials.{Poly, degree, lower}
 use Rattle.specification.specs.Parts.{Verdict, basic, solid, power, split, Factor, Part}
 use Rattle.specification.specs.Totals.{listOf}
 use Rattle.specification.specs.Sheets.{Sheet, coefficientBytes}
 use Rattle.specification.specs.Answers.{verdictNumber, factorBytes, partBytes, totalBytes, answer}
 use Rattle.specification.specs.Promises.{GoodSheet}
+use Rattle.algebra.specs.Tests.{passes}
+use Rattle.algebra.specs.TakenPrimes.{fits-byte, square-fits-byte}
 use Rattle.factorisation.specs.Members.{All, all-cons, all-tail, all-append}
 use Rattle.factorisation.specs.Sums.{total as sum}
 use Rattle.theorems.specs.Factors.{degrees}
 use Rattle.theorems.specs.CoefficientBytes.{length-lower}
-use Rattle.theorems.specs.GoodSheets.{taken-passes}
 use Rattle.theorems.specs.AnswerLayout.{answerBytes, sheetParts, answer-is, factorBytes-cons, partBytes-cons}
 use Rattle.theorems.specs.PartShapes.{partDegrees, FactorShape, PartShape, total-bound, free-bound, different-bound}
 
@@ -67,7 +67,7 @@ module _ {n : ℕ} where
         length-parts Ps (all-tail h),
       )
 
-  pub answer-length : (p d : ℕ) (Ps : List Part) → All (PartShape n) Ps → length (answerBytes p d Ps) ≤ 9 + 10 * partDegrees Ps
+  answer-length : (p d : ℕ) (Ps : List Part) → All (PartShape n) Ps → length (answerBytes p d Ps) ≤ 9 + 10 * partDegrees Ps
   unfolding totalBytes
   answer-length p d Ps h =
       omega (arith, length-append (flatMap partBytes Ps ++ totalBytes Ps) (0x0F ∷ []), length-append (flatMap partBytes Ps) (totalBytes Ps), length-parts Ps h)
@@ -120,7 +120,7 @@ module _ {n : ℕ} (small : n ≤ 256) where
       rw (partBytes-cons P Ps) (all-cons (omega arith) (all-cons (omega arith) (all-cons (omega arith) (all-cons (byte-verdict (P .splitting .verdict))
       (all-append (bytes-factors (P .splitting .factors) (P-is .factors) (omega (arith, P-is .degrees))) (bytes-parts Ps (all-tail h) (omega arith)))))))
 
-  pub answer-bytes : (p d : ℕ) (Ps : List Part) → Byte p → Byte d → All (PartShape n) Ps → Byte (partDegrees Ps) → All Byte (answerBytes p d Ps)
+  answer-bytes : (p d : ℕ) (Ps : List Part) → Byte p → Byte d → All (PartShape n) Ps → Byte (partDegrees Ps) → All Byte (answerBytes p d Ps)
   unfolding totalBytes
   answer-bytes p d Ps k l h u =
       all-cons (omega arith) (all-cons k (all-cons (omega arith) (all-cons l
@@ -138,9 +138,8 @@ module _ (s : Sheet) (shapes : All (PartShape (s .prime * s .prime)) (sheetParts
 
   -- "Commands are one byte; each operand is one byte"
   pub answer-is-bytes : GoodSheet s → All Byte (answer s)
-  unfolding primes all
   answer-is-bytes g =
       let p : ℕ = s .prime in
-      let prime : p < 256 = ltb→lt p 256 (taken-passes (λ (q : ℕ). ltb q 256) tt p (g .prime)) in
-      let square : p * p ≤ 256 = leb→le (p * p) 256 (taken-passes (λ (q : ℕ). leb (q * q) 256) tt p (g .prime)) in
-      rw (answer-is s) (answer-bytes square p (degree (s .poly)) (sheetParts s) prime (omega (arith, g .fits)) shapes (omega (arith, fits)))
+      let t : taken p ≡ true = passes (taken p) (g .prime) in
+      rw (answer-is s)
+      (answer-bytes (square-fits-byte p t) p (degree (s .poly)) (sheetParts s) (fits-byte t) (omega (arith, g .fits)) shapes (omega (arith, fits)))

@@ -2,26 +2,19 @@
 -- Proves that x to a power makes one, and that a coefficient below the top may be set. Assumes nothing.
 use mathlib.Core.Path.{_≡_, sym, _∙_, ap}
 use mathlib.Core.Logic.{⊎-elim, _≢_}
-use mathlib.Core.Bool.{Bool}
 use mathlib.Core.List.{[], _∷_}
 use Prim.Native.Nat.{ℕ, _≤_, _<_, _*_}
 use native.Mathlib.Nat.{eq-or-lt-of-le}
 use native.Mathlib.Omega.{arith}
 use lib.ListN.{length, getD, set, replicate, length-append, length-replicate, length-set, getD-replicate, List·getD-append}
 use lib.Seq.{getD-at, getD-set-same, getD-set-other}
-use lib.Dec.{T, ltb, ltb→lt}
-use Rattle.specification.specs.Limits.{primes, taken, degreeLimit}
-use Rattle.specification.specs.Lists.{all}
+use lib.Dec.{T}
+use Rattle.specification.specs.Limits.{taken, degreeLimit}
 use Rattle.specification.specs.Polynomials.{degree, monomial}
 use Rattle.specification.specs.Sheets.{Sheet, sheetOf, withCoefficient}
 use Rattle.specification.specs.Promises.{GoodSheet}
-use Rattle.algebra.specs.Numbers.{lt-or-le}
-use Rattle.algebra.specs.ListLaws.{member-passes}
-
--- what holds of all taken primes holds of this one
-pub taken-passes : (test : ℕ → Bool) → T (all test primes) → (p : ℕ) → T (taken p) → T (test p)
-unfolding taken
-taken-passes test h p t = member-passes test p primes t h
+use Rattle.algebra.specs.Numbers.{lt-or-le, square-large}
+use Rattle.algebra.specs.Fields.{taken-prime}
 
 -- ---- x to the power n
 
@@ -36,7 +29,6 @@ monomial-top : (n i : ℕ) → n ≡ i → getD (monomial n) i 0 ≡ 1
 monomial-top n i e = getD-at (replicate n 0) 1 [] 0 i (length-replicate {A = ℕ} n 0 ∙ e)
 
 pub monomial-good : (p n : ℕ) → T (taken p) → 0 < n → n ≤ degreeLimit → GoodSheet (sheetOf p (monomial n))
-unfolding primes all
 monomial-good p n t l u = record {
   prime = t;
   monic = record { positive = omega (arith, degree-monomial n); leadsWithOne = monomial-top n (degree (monomial n)) (sym (degree-monomial n)); reduced = low };
@@ -44,7 +36,7 @@ monomial-good p n t l u = record {
 }
   where
     square : 1 < p * p
-    square = ltb→lt 1 (p * p) (taken-passes (λ (q : ℕ). ltb 1 (q * q)) tt p t)
+    square = square-large p (taken-prime p t .large)
 
     low : (i : ℕ) → i < length (monomial n) → getD (monomial n) i 0 < p * p
     low i h =

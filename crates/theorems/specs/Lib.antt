@@ -22,6 +22,7 @@ pub mod Recognised
 pub mod CoefficientBytes
 pub mod GoodSheets
 pub mod SheetsRead
+pub mod SheetSteps
 pub mod SheetsBothWays
 pub mod SheetLength
 pub mod AnswerLayout

@@ -22,7 +22,7 @@ unfoldable pub list : {n : ℕ} → ℕ → ℤ[x]/ n → List ℕ
 list zero a = []
 list (suc m) a = a .coef 0 .value ∷ list m (tail a)
 
-pub length-list : {n : ℕ} (m : ℕ) (a : ℤ[x]/ n) → length (list m a) ≡ m
+length-list : {n : ℕ} (m : ℕ) (a : ℤ[x]/ n) → length (list m a) ≡ m
 unfolding list
 length-list zero a = refl
 length-list (suc m) a = ap suc (length-list m (tail a))
@@ -41,7 +41,7 @@ poly-list {n} m a h = poly-ext at
         ⊎-elim (λ l. coef-poly n (list m a) k ∙ ap (residue n) (getD-list m a k l) ∙ residue-value n (a .coef k))
         (λ l. below-poly n (list m a) .high k (omega (arith, length-list m a)) ∙ sym (h .high k l)) (lt-or-le k m)
 
-pub reduced-list : {n : ℕ} → 0 < n → (m : ℕ) (a : ℤ[x]/ n) → Reduced n m (list m a)
+reduced-list : {n : ℕ} → 0 < n → (m : ℕ) (a : ℤ[x]/ n) → Reduced n m (list m a)
 reduced-list {n} pos m a = record { len = length-list m a; low = low }
   where
     low : (k : ℕ) → getD (list m a) k 0 < n

@@ -27,17 +27,17 @@ use Rattle.theorems.specs.Enumeration.{monicsTo-member, monicsTo-has, mo
 
 module _ (p : ℕ) (large : 1 < p) (n : ℕ) where
   -- what is found among the candidates Gs: the powers Ps of f
-  pub record Found (Gs : List spec.Poly) (f : spec.Poly) (Ps : List Power) : Type 0 where
-    pub among : (P : Power) → P ∈ Ps → P .base ∈ Gs
-    pub irreducible : (P : Power) → P ∈ Ps → claims.Irreducible p (P .base)
-    pub positive : (P : Power) → P ∈ Ps → 1 ≤ P .exponent
-    pub inOrder : claims.InOrder Ps
-    pub multiplies : spec.product p (map (claims.powerOf p) Ps) ≡ f
+  record Found (Gs : List spec.Poly) (f : spec.Poly) (Ps : List Power) : Type 0 where
+    among : (P : Power) → P ∈ Ps → P .base ∈ Gs
+    irreducible : (P : Power) → P ∈ Ps → claims.Irreducible p (P .base)
+    positive : (P : Power) → P ∈ Ps → 1 ≤ P .exponent
+    inOrder : claims.InOrder Ps
+    multiplies : spec.product p (map (claims.powerOf p) Ps) ≡ f
 
   -- the candidates before Gs, which divide f no more
-  pub record Tried (Cs Gs : List spec.Poly) (f : spec.Poly) : Type 0 where
-    pub all : Cs ++ Gs ≡ monicsTo p n
-    pub gone : (H : spec.Poly) → H ∈ Cs → Divides p H f → ⊥
+  record Tried (Cs Gs : List spec.Poly) (f : spec.Poly) : Type 0 where
+    all : Cs ++ Gs ≡ monicsTo p n
+    gone : (H : spec.Poly) → H ∈ Cs → Divides p H f → ⊥
 
   -- a monic polynomial of degree 1 or more that divides f is still to come
   to-come : {Cs Gs : List spec.Poly} {f : spec.Poly} → Tried Cs Gs f → {e : ℕ} {H : spec.Poly} → MonicList p e H → 1 ≤ e → e ≤ n → Divides p H f → H ∈ Gs
@@ -117,7 +117,7 @@ module _ (p : ℕ) (large : 1 < p) (n : ℕ) where
               ∙ ap (λ a. a · poly p (spec.pow p G k)) h ∙ out .law,
         )
 
-    pub tried-more : Tried (Cs ++ (G ∷ [])) Gs rest
+    tried-more : Tried (Cs ++ (G ∷ [])) Gs rest
     tried-more = record {
       all = append-assoc Cs (G ∷ []) Gs ∙ t .all;
       gone = λ H i v. ⊎-elim (λ j. t .gone H j (rest-divides H v)) (λ j. taken-out (subst (λ x. Divides p x rest) (List·Memᴰ·eq-of-singleton j) v))

@@ -3,12 +3,13 @@
 -- sheets have different answers and that the two calls undo each other. Assumes nothing else.
 use mathlib.Core.Path.{_≡_, refl, sym, _∙_, ap, subst}
 use mathlib.Core.Logic.{_↔_}
-use mathlib.Core.Bool.{true, false, not}
+use mathlib.Core.Bool.{true, not}
 use mathlib.Core.List.{List}
 use Prim.Native.Nat.{ℕ, _≤_, _*_}
 use native.Mathlib.Omega.{arith}
 use lib.ListN.{getD}
-use lib.Dec.{T, ltb, ltb→lt, nltb→le}
+use borrow.Author.Tests.{le-ltb}
+use lib.Dec.{T, ltb, nltb→le}
 use Rattle.specification.specs.Lists.{same}
 use Rattle.specification.specs.Limits.{answerArea}
 use Rattle.specification.specs.Polynomials.{product}
@@ -59,12 +60,9 @@ split-call area t = picked (Split area t) (ltb area answerArea) (λ k e. absurd 
 
 -- ---- the two calls undo each other
 
-enough : (area : ℕ) → answerArea ≤ area → ltb area answerArea ≡ false
-enough area l = fails (ltb area answerArea) (λ t. omega (arith, ltb→lt area answerArea t))
-
 pub split-written : (area : ℕ) → answerArea ≤ area → (s : Sheet) → GoodSheet s → splitCall area (sheetBytes s) ≡ success (answer s)
 unfolding splitCall
-split-written area l s g = rw (enough area l, written-is-read s g) (unfold answerTo in refl)
+split-written area l s g = rw (le-ltb area answerArea l, written-is-read s g) (unfold answerTo in refl)
 
 pub split-succeeds : (area : ℕ) (t : List ℕ) → (splitCall area t) .number ≡ 0 → splitCall area t ≡ success ((splitCall area t) .bytes)
 split-succeeds area t e =
@@ -90,7 +88,7 @@ module _ (multiplies : (s : Sheet) → GoodSheet s → product (s .prime * s .pr
 
   read-answer : (area : ℕ) → answerArea ≤ area → (s : Sheet) → GoodSheet s → readCall area (answer s) ≡ success (sheetBytes s)
   unfolding readCall
-  read-answer area l s g = rw (enough area l, sheetIn-answer s g, written-is-read s g, self-answer s)
+  read-answer area l s g = rw (le-ltb area answerArea l, sheetIn-answer s g, written-is-read s g, self-answer s)
 
   pub split-then-read : (area : ℕ) (b t : List ℕ) → splitCall area t ≡ success b → readCall area b ≡ success t
   split-then-read area b t e =
@@ -118,7 +116,7 @@ module _ (multiplies : (s : Sheet) → GoodSheet s → product (s .prime * s .pr
       none h =
           unfold readCall in
           rw (
-            enough area l,
+            le-ltb area answerArea l,
             fails (isAnswerTo (readSheet (sheetIn b)) b)
                 (λ t. let (s, g, is-answer, is-sheet) = answered b (readSheet (sheetIn b)) refl t in h s g is-answer),
           )

@@ -88,7 +88,7 @@ module _ (p : ℕ) (prime : Prime p) where
           (sym (bar-product Fs over) ∙ ap (poly p) multiplies ∙ sym (poly-reduce p (omega (arith, prime .large)) f));
     }
 
-    pub powers-found : found ≡ powers p f
+    powers-found : found ≡ powers p f
     powers-found = items p prime mf .powersOnly found powers-of
 
     multiplied : product (PolyRing (Residues n)) (map (poly n) (map (λ F. F .part) Fs)) ≡ poly n f

@@ -4,7 +4,7 @@
 use mathlib.Core.Path.{_≡_, refl, sym, _∙_, ap, ap₂, subst}
 use mathlib.Core.List.{List, map, Memᴰ·of-map, Memᴰ·map, Memᴰ·cast}
 use mathlib.Core.Logic.{⊎-elim}
-use Prim.Native.Nat.{ℕ, _≤_, _<_, _%_, _/_, _*_ as _*ℕ_}
+use Prim.Native.Nat.{ℕ, suc, _≤_, _<_, _%_, _/_, _*_ as _*ℕ_}
 use native.Mathlib.Nat.{mod-add-div, mul-le-mul-left, div-eq-of-lt, zero-div, div-lt-iff-lt-mul, eq-or-lt-of-le}
 use native.Mathlib.Omega.{arith}
 use lib.ListN.{length, getD, take, length-map, length-take, List·getD-eq-default}
@@ -14,15 +14,16 @@ use Rattle.specification.specs.Powers.{lifts, polynomials}
 use Rattle.specification.specs.Parts.{digitLift}
 use Rattle.algebra.specs.Numbers.{square-large}
 use Rattle.algebra.specs.Numbers.{lt-or-le}
-use Rattle.algebra.specs.Ring.{add-zero, zero-mul}
-use Rattle.algebra.specs.Residues.{residue, Residues, residue-add, residue-mul, residue-self}
-use Rattle.algebra.specs.Polynomials.{PolyRing, _+_, _·_, 𝟎, constant, constant-zero, poly-ext, coef-add, coef-constant-mul}
-use Rattle.algebra.specs.Degree.{Monic, below-up, below-constant-mul, monic-add}
-use Rattle.algebra.specs.Homomorphisms.{map-poly, coef-map, map-homomorphism, map-constant}
-use Rattle.algebra.specs.Extension.{Extension, bar, bar-residue, residue-extension}
+use Rattle.algebra.specs.Residues.{residue, Residues, residue-add, residue-mul}
+use Rattle.algebra.specs.Polynomials.{PolyRing, _+_, _·_, constant, poly-ext, coef-add, coef-constant-mul}
+use Rattle.algebra.specs.Degree.{Below, Monic, below-up, monic-add}
+use Rattle.algebra.specs.Homomorphisms.{map-poly, coef-map, monic-map}
+use Rattle.algebra.specs.Extension.{Extension, bar, bar-residue, residue-extension, residue-π, poly-extension, poly-π}
 use Rattle.algebra.specs.CoefficientLists.{ℤ[x]/, poly, Reduced, coef-poly, below-poly, poly-add, poly-scale, poly-reduce, same-list}
 use Rattle.algebra.specs.ListShapes.{length-add, length-reduce, length-scale, low-reduce, getD-map, getD-reduce}
 use Rattle.factorisation.specs.Members.{_∈_}
+use Rattle.factorisation.specs.ExtensionLaws.{bar-add-π, π-equal}
+use Rattle.factorisation.specs.PolynomialExtension.{below-lift, below-π}
 use Rattle.theorems.specs.MonicLists.{MonicList, monic-poly, monic-reduced, monic-same}
 use Rattle.theorems.specs.Enumeration.{polynomials-member, polynomials-has}
 
@@ -75,31 +76,41 @@ module _ (p : ℕ) (large : 1 < p) where
       poly-add (p *ℕ p) (omega (arith, large²)) q (spec.scale (p *ℕ p) p t)
       ∙ ap (λ a. poly (p *ℕ p) q + a) (poly-scale (p *ℕ p) (omega (arith, large²)) p t)
 
-  pub bar-π-mul : (a : ℤ[x]/ (p *ℕ p)) → barred (π · a) ≡ 𝟎
-  bar-π-mul a =
-      (map-homomorphism (coefficients .hom)) .keeps-mul π a
-      ∙ ap (λ b. b · barred a) (map-constant (coefficients .hom) (residue (p *ℕ p) p)
-      ∙ ap constant (bar-residue p (omega arith) p ∙ residue-self p (omega arith)) ∙ constant-zero (Residues p))
-      ∙ zero-mul (PolyRing (Residues p)) (barred a)
+  -- ℤ/p²[x] → ℤ/p[x]
+  abbrev pub extension : Extension (PolyRing (Residues (p *ℕ p))) (PolyRing (Residues p)) barred
+  extension = poly-extension coefficients
+
+  pub π-is : extension .π ≡ π
+  π-is = poly-π coefficients ∙ ap constant (residue-π p (omega arith))
+
+  pub lift-is : (q t : spec.Poly) → poly (p *ℕ p) (spec.lift p q t) ≡ poly (p *ℕ p) q + extension .π · poly (p *ℕ p) t
+  lift-is q t = poly-lift q t ∙ ap (λ a. poly (p *ℕ p) q + a · poly (p *ℕ p) t) (sym π-is)
 
   bar-lifted : (q t : spec.Poly) → poly p (spec.lift p q t) ≡ poly p q
   bar-lifted q t =
-      sym (bar-poly (spec.lift p q t)) ∙ ap barred (poly-lift q t)
-      ∙ (map-homomorphism (coefficients .hom)) .keeps-add (poly (p *ℕ p) q) (π · poly (p *ℕ p) t)
-      ∙ ap₂ _+_ (bar-poly q) (bar-π-mul (poly (p *ℕ p) t)) ∙ add-zero (PolyRing (Residues p)) (poly p q)
+      sym (bar-poly (spec.lift p q t)) ∙ ap barred (lift-is q t) ∙ bar-add-π extension (poly (p *ℕ p) q) (poly (p *ℕ p) t) ∙ bar-poly q
+
+  pub bar-monic : {d : ℕ} (f : List ℕ) → Monic d (poly (p *ℕ p) f) → Monic d (poly p f)
+  bar-monic {d} f m = subst (Monic d) (bar-poly f) (monic-map (coefficients .hom) m)
+
+  -- q + p·t, where t is of lower degree modulo p
+  pub lift-list-monic : {d : ℕ} {q : spec.Poly} → MonicList (p *ℕ p) d q → (t : spec.Poly) → length t ≤ suc d → Below d (poly p t)
+      → MonicList (p *ℕ p) d (spec.lift p q t)
+  lift-list-monic {d} {q} m t l b =
+      monic-reduced large²
+      (record {
+        len = unfold spec.lift in
+            length-add (p *ℕ p) q (spec.scale (p *ℕ p) p t) (omega (arith, length-scale (p *ℕ p) p t, m .reduced .len)) ∙ m .reduced .len;
+        low = unfold spec.lift spec.add in low-reduce (p *ℕ p) (omega (arith, large²)) _;
+      })
+      (subst (Monic d) (sym (lift-is q t)) (monic-add (monic-poly m) (rw multiple (below-π coefficients (below-lift coefficients b)))))
+    where
+      multiple : extension .π · poly (p *ℕ p) t ≡ extension .π · extension .lift (poly p t)
+      multiple = π-equal extension (bar-poly t ∙ sym (extension .bar-lift (poly p t)))
 
   module _ {d : ℕ} {q : spec.Poly} (m : MonicList p d q) where
     pub lift-monic : (t : spec.Poly) → length t ≤ d → MonicList (p *ℕ p) d (spec.lift p q t)
-    lift-monic t l =
-        monic-reduced large²
-        (record {
-          len = unfold spec.lift in length-add (p *ℕ p) q (spec.scale (p *ℕ p) p t)
-              (omega (arith, length-scale (p *ℕ p) p t, m .reduced .len))
-              ∙ m .reduced .len;
-          low = unfold spec.lift spec.add in low-reduce (p *ℕ p) (omega (arith, large²)) _;
-        })
-        (subst (Monic d) (sym (poly-lift q t)) (monic-add (monic-poly (digits-monic m))
-        (below-constant-mul (residue (p *ℕ p) p) (below-up l (below-poly (p *ℕ p) t)))))
+    lift-monic t l = lift-list-monic (digits-monic m) t (omega arith) (below-up l (below-poly p t))
 
     pub lift-bar : (t : spec.Poly) → length t ≤ d → spec.reduce p (spec.lift p q t) ≡ q
     lift-bar t l =

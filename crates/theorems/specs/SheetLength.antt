@@ -125,7 +125,7 @@ module _ (bytes : List ℕ) where
   unfolding readSheet
   reading = reads primeCommand 0 bytes
 
-  pub accepted-length : (s : Sheet) → readSheet bytes ≡ accepted s → length bytes ≤ sheetLimit
+  accepted-length : (s : Sheet) → readSheet bytes ≡ accepted s → length bytes ≤ sheetLimit
   accepted-length s e = rw e at reading
 
   pub fault-number : (k at : ℕ) → readSheet bytes ≡ fault k at → (2 ≤ k) × (k ≤ 8)

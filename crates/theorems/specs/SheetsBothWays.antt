@@ -3,14 +3,12 @@
 -- Assumes nothing.
 use mathlib.Core.Path.{_≡_, refl, sym, _∙_, ap}
 use mathlib.Core.Logic.{_↔_}
-use mathlib.Core.Bool.{_&&_}
 use mathlib.Core.List.{List, [], _∷_, _++_}
 use Prim.Native.Nat.{ℕ, zero, suc, _≤_, _<_, _*_}
 use native.Mathlib.Omega.{arith}
 use lib.ListN.{length, getD, replicate, length-append}
 use lib.Seq.{set-at, getD-take, append-snoc}
-use lib.Dec.{T, leb, ltb, le→leb, lt→ltb}
-use Rattle.specification.specs.Limits.{taken, degreeLimit}
+use Rattle.specification.specs.Limits.{taken}
 use Rattle.specification.specs.Polynomials.{Poly, degree, lower, monomial}
 use Rattle.specification.specs.Sheets.{
   Sheet,
@@ -34,31 +32,14 @@ use Rattle.specification.specs.Sheets.{
   sheetBytes,
 }
 use Rattle.specification.specs.Promises.{GoodSheet}
-use Rattle.algebra.specs.Tests.{passes, both}
+use Rattle.algebra.specs.Tests.{passes}
 use Rattle.theorems.specs.CoefficientBytes.{length-lower, lower-top}
+use Rattle.theorems.specs.SheetSteps.{prime-operand, degree-operand, index-operand, value-operand}
 use Rattle.theorems.specs.SheetsRead.{read-is-good, read-is-written}
 
 readFrom-next : (due due′ : Due) (at b : ℕ) (bytes : List ℕ) → step due b ≡ next due′ → readFrom due at (b ∷ bytes) ≡ readFrom due′ (suc at) bytes
 unfolding readFrom
 readFrom-next due due′ at b bytes e = rw (e, readFrom)
-
-step-prime : (p : ℕ) → T (taken p) → step primeOperand p ≡ next (degreeCommand p)
-unfolding step
-step-prime p t = rw (passes (taken p) t)
-
-step-degree : (p n : ℕ) → 0 < n → n ≤ degreeLimit → step (degreeOperand p) n ≡ next (command (sheetOf p (monomial n)) 0)
-unfolding step
-step-degree p n l u = rw (passes (ltb 0 n && leb n degreeLimit) (both (ltb 0 n) (leb n degreeLimit) (lt→ltb 0 n l) (le→leb n degreeLimit u)))
-
-step-index : (s : Sheet) (least i : ℕ) → i < degree (s .poly) → least ≤ i → step (indexOperand s least) i ≡ next (valueOperand s i)
-unfolding step
-step-index s least i l u =
-    rw (passes (ltb i (degree (s .poly)) && leb least i) (both (ltb i (degree (s .poly))) (leb least i) (lt→ltb i (degree (s .poly)) l) (le→leb least i u)))
-
-step-value : (s : Sheet) (i v : ℕ) → 0 < v → v < s .prime * s .prime → step (valueOperand s i) v ≡ next (command (withCoefficient s i v) (suc i))
-unfolding step
-step-value s i v l u =
-    rw (passes (ltb 0 v && ltb v (s .prime * s .prime)) (both (ltb 0 v) (ltb v (s .prime * s .prime)) (lt→ltb 0 v l) (lt→ltb v (s .prime * s .prime) u)))
 
 -- the coefficients a are read, t is to come
 coefficients-read : (p : ℕ) (a t : Poly) (i least at : ℕ) → length a ≡ i → least ≤ i → ((k : ℕ) → k < length t → getD t k 0 < p * p)
@@ -73,9 +54,9 @@ coefficients-read p a (suc v ∷ t) i least at e l h =
     let s : Sheet = sheetOf p (a ++ (0 ∷ monomial (length t))) in
     readFrom-next (command s least) (indexOperand s least) at 0x03 _ (unfold step in refl)
     ∙ readFrom-next (indexOperand s least) (valueOperand s i) (suc at) i _
-    (step-index s least i (omega (arith, length-append a (0 ∷ monomial (length t)), length-append {A = ℕ} (replicate (length t) 0) (1 ∷ []))) l)
+    (index-operand s least i (omega (arith, length-append a (0 ∷ monomial (length t)), length-append {A = ℕ} (replicate (length t) 0) (1 ∷ []))) l)
     ∙ readFrom-next (valueOperand s i) (command (withCoefficient s i (suc v)) (suc i)) (suc (suc at)) (suc v) _
-    (step-value s i (suc v) (omega arith) (h 0 (omega arith)))
+    (value-operand s i (suc v) (omega arith) (h 0 (omega arith)))
     ∙ ap (λ (f : Poly). readFrom (command (sheetOf p f) (suc i)) (suc (suc (suc at))) (coefficientBytes (suc i) t ++ (0x0F ∷ [])))
     (set-at a 0 (monomial (length t)) (suc v) i e ∙ sym (append-snoc a (suc v) (monomial (length t))))
     ∙ coefficients-read p (a ++ (suc v ∷ [])) t (suc i) (suc i) (suc (suc (suc at))) (length-append a (suc v ∷ []) ∙ omega arith) (omega arith)
@@ -88,9 +69,9 @@ written-is-read s g =
     let p : ℕ = s .prime in
     let f : Poly = s .poly in
     readFrom-next primeCommand primeOperand 0 0x01 _ (unfold step in refl)
-    ∙ readFrom-next primeOperand (degreeCommand p) 1 p _ (step-prime p (g .prime))
+    ∙ readFrom-next primeOperand (degreeCommand p) 1 p _ (prime-operand p (passes (taken p) (g .prime)))
     ∙ readFrom-next (degreeCommand p) (degreeOperand p) 2 0x02 _ (unfold step in refl)
-    ∙ readFrom-next (degreeOperand p) (command (sheetOf p (monomial (degree f))) 0) 3 (degree f) _ (step-degree p (degree f) (g .monic .positive) (g .fits))
+    ∙ readFrom-next (degreeOperand p) (command (sheetOf p (monomial (degree f))) 0) 3 (degree f) _ (degree-operand p (degree f) (g .monic .positive) (g .fits))
     ∙ ap (λ (k : ℕ). readFrom (command (sheetOf p (monomial k)) 0) 4 (coefficientBytes 0 (lower f) ++ (0x0F ∷ []))) (sym (length-lower f))
     ∙ coefficients-read p [] (lower f) 0 0 4 refl (omega arith)
     (λ k u. rw (getD-take (degree f) f k 0 (omega (arith, length-lower f))) (g .monic .reduced k (omega (arith, length-lower f))))

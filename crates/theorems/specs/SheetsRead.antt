@@ -40,6 +40,7 @@ use Rattle.specification.specs.Sheets.{
 }
 use Rattle.specification.specs.Promises.{GoodSheet}
 use Rattle.algebra.specs.Tests.{picked, left, right}
+use Rattle.theorems.specs.ListEnds.{then}
 use Rattle.theorems.specs.CoefficientBytes.{coefficientBytes-next, coefficientBytes-one}
 use Rattle.theorems.specs.GoodSheets.{monomial-low, degree-monomial, monomial-good, set-good}
 
@@ -116,34 +117,30 @@ abbrev Stepped : List ℕ → Step → Type 0
 Stepped w (next due) = Reached due w
 Stepped w (wrong k) = Unit {0}
 
--- w, then b
-abbrev extended : List ℕ → ℕ → List ℕ
-extended w b = w ++ (b ∷ [])
-
-stepped : (due : Due) (b : ℕ) (w : List ℕ) → Reached due w → Stepped (extended w b) (step due b)
+stepped : (due : Due) (b : ℕ) (w : List ℕ) → Reached due w → Stepped (then w b) (step due b)
 unfolding step
-stepped primeCommand b w h = picked (Stepped (extended w b)) (eqb b 0x01) (λ t. ap₂ extended h (eqb→eq b 0x01 t)) (λ t. tt)
-stepped primeOperand p w h = picked (Stepped (extended w p)) (taken p) (λ t. (t, ap (λ x. extended x p) h)) (λ t. tt)
-stepped (degreeCommand p) b w (k, h) = picked (Stepped (extended w b)) (eqb b 0x02) (λ t. (k, ap₂ extended h (eqb→eq b 0x02 t))) (λ t. tt)
+stepped primeCommand b w h = picked (Stepped (then w b)) (eqb b 0x01) (λ t. ap₂ then h (eqb→eq b 0x01 t)) (λ t. tt)
+stepped primeOperand p w h = picked (Stepped (then w p)) (taken p) (λ t. (t, ap (λ x. then x p) h)) (λ t. tt)
+stepped (degreeCommand p) b w (k, h) = picked (Stepped (then w b)) (eqb b 0x02) (λ t. (k, ap₂ then h (eqb→eq b 0x02 t))) (λ t. tt)
 stepped (degreeOperand p) n w (k, h) =
-    picked (Stepped (extended w n)) (ltb 0 n && leb n degreeLimit)
+    picked (Stepped (then w n)) (ltb 0 n && leb n degreeLimit)
     (λ t. rw h (begun-none p n k (ltb→lt 0 n (left (ltb 0 n) (leb n degreeLimit) t)) (leb→le n degreeLimit (right (ltb 0 n) (leb n degreeLimit) t))))
     (λ t. tt)
 stepped (command s least) b w h =
-    picked (Stepped (extended w b)) (eqb b 0x03) (λ t. (w, h, ap (extended w) (eqb→eq b 0x03 t)))
-    (λ t. picked (Stepped (extended w b)) (eqb b 0x0F) (λ t. (h .good, ap (extended w) (eqb→eq b 0x0F t) ∙ begun-end h)) (λ t. tt))
+    picked (Stepped (then w b)) (eqb b 0x03) (λ t. (w, h, ap (then w) (eqb→eq b 0x03 t)))
+    (λ t. picked (Stepped (then w b)) (eqb b 0x0F) (λ t. (h .good, ap (then w) (eqb→eq b 0x0F t) ∙ begun-end h)) (λ t. tt))
 stepped (indexOperand s least) i w (v, h, e) =
     let inside : Bool = ltb i (degree (s .poly)) in
-    picked (Stepped (extended w i)) (inside && leb least i)
+    picked (Stepped (then w i)) (inside && leb least i)
     (λ t.
     let l : i < degree (s .poly) = ltb→lt i (degree (s .poly)) (left inside (leb least i) t) in
-    (v, begun-later h i (leb→le least i (right inside (leb least i) t)) (omega arith), l, ap (λ x. extended x i) e ∙ append-snoc v 0x03 (i ∷ [])))
+    (v, begun-later h i (leb→le least i (right inside (leb least i) t)) (omega arith), l, ap (λ x. then x i) e ∙ append-snoc v 0x03 (i ∷ [])))
     (λ t. tt)
 stepped (valueOperand s i) b w (v, h, l, e) =
     let small : Bool = ltb b (s .prime * s .prime) in
-    picked (Stepped (extended w b)) (ltb 0 b && small)
+    picked (Stepped (then w b)) (ltb 0 b && small)
     (λ t.
-    subst (Begun (withCoefficient s i b) (suc i)) (sym (ap (λ x. extended x b) e ∙ append-assoc v (0x03 ∷ i ∷ []) (b ∷ [])))
+    subst (Begun (withCoefficient s i b) (suc i)) (sym (ap (λ x. then x b) e ∙ append-assoc v (0x03 ∷ i ∷ []) (b ∷ [])))
     (begun-set h l b (ltb→lt 0 b (left (ltb 0 b) small t)) (ltb→lt b (s .prime * s .prime) (right (ltb 0 b) small t))))
     (λ t. tt)
 stepped (nothingMore s) b w h = tt
@@ -167,9 +164,9 @@ read-end (nothingMore s) at w h = h
 reads : (due : Due) (at : ℕ) (w bytes : List ℕ) → Reached due w → Read (w ++ bytes) (readFrom due at bytes)
 unfolding readFrom
 reads due at w [] h = rw (append-nil w) (read-end due at w h)
-reads due at w (b ∷ bytes) h = go (step due b) (stepped due b w h) (λ due′ h′. reads due′ (suc at) (extended w b) bytes h′)
+reads due at w (b ∷ bytes) h = go (step due b) (stepped due b w h) (λ due′ h′. reads due′ (suc at) (then w b) bytes h′)
   where
-    go : (r : Step) → Stepped (extended w b) r → ((due′ : Due) → Reached due′ (extended w b) → Read (extended w b ++ bytes) (readFrom due′ (suc at) bytes))
+    go : (r : Step) → Stepped (then w b) r → ((due′ : Due) → Reached due′ (then w b) → Read (then w b ++ bytes) (readFrom due′ (suc at) bytes))
         → Read (w ++ (b ∷ bytes)) (elim r [ next due′ ↦ readFrom due′ (suc at) bytes | wrong k ↦ fault k at ])
     go (next due′) c f = rw (append-snoc w b bytes) at (f due′ c)
     go (wrong k) c f = tt

@@ -4,8 +4,8 @@
 use mathlib.Core.Path.{_≡_, sym, _∙_, ap, ap₂, subst}
 use mathlib.Core.Bool.{Bool}
 use mathlib.Core.Logic.{_≢_}
-use Prim.Native.Nat.{ℕ, zero, suc, _<_, _%_, zero-le, _+_ as _+ℕ_, _*_ as _*ℕ_}
-use native.Mathlib.Nat.{mod-eq-of-lt, zero-mod, mul-comm}
+use Prim.Native.Nat.{ℕ, zero, suc, _<_, _%_, zero-le, _*_ as _*ℕ_}
+use native.Mathlib.Nat.{mod-eq-of-lt, mul-comm}
 use native.Mathlib.Omega.{arith}
 use lib.Dec.{T, eqb, eqb→eq}
 use Rattle.specification.specs.Lists.{upFrom, below}
@@ -17,15 +17,16 @@ use Rattle.algebra.specs.Residues.{
   Residues,
   residue-zero,
   residue-one,
-  residue-add,
+  residue-suc,
   residue-mul,
   residue-mod,
   residue-value,
   value-below,
   same-remainder,
+  zero-remainder,
 }
 use Rattle.algebra.specs.Fields.{Prime, prime-pos, residue-field}
-use Rattle.algebra.specs.Polynomials.{PolyRing, _+_, _·_, 𝟎, constant, constant-zero, constant-one, constant-add, constant-mul}
+use Rattle.algebra.specs.Polynomials.{PolyRing, _+_, _·_, 𝟎, constant, constant-zero, constant-one, constant-add, constant-unit}
 use Rattle.algebra.specs.CoefficientLists.{poly, poly-scale}
 use Rattle.algebra.specs.ListLaws.{first-passes, upFrom-has}
 use Rattle.factorisation.specs.ExtensionLaws.{number, number-zero, number-suc}
@@ -35,9 +36,8 @@ module _ (n : ℕ) where
   number-constant zero = number-zero (PolyRing (Residues n)) ∙ sym (ap constant (residue-zero n) ∙ constant-zero (Residues n))
   number-constant (suc k) =
       number-suc (PolyRing (Residues n)) k
-      ∙ ap₂ _+_ (sym (ap constant (residue-one n) ∙ constant-one (Residues n))) (number-constant k)
-      ∙ sym (constant-add (residue n 1) (residue n k))
-      ∙ ap constant (sym (residue-add n 1 k) ∙ ap (residue n) (let e : 1 +ℕ k ≡ suc k = omega arith in e))
+      ∙ ap₂ _+_ (sym (constant-one (Residues n))) (number-constant k)
+      ∙ sym (constant-add ((Residues n) .𝟙) (residue n k)) ∙ ap constant (sym (residue-suc n k))
 
   pub number-multiple : 0 < n → (k : ℕ) → k % n ≡ 0 → number (PolyRing (Residues n)) k ≡ 𝟎
   number-multiple pos k e =
@@ -49,7 +49,7 @@ module _ (p : ℕ) (prime : Prime p) (m : ℕ) (unit : m % p ≢ 0) where
   leaves-one b = eqb (b *ℕ m % p) 1
 
   nonzero : residue p m ≢ (Residues p) .𝟘
-  nonzero e = unit (same-remainder p (prime-pos prime) m 0 (e ∙ sym (residue-zero p)) ∙ zero-mod p)
+  nonzero e = unit (zero-remainder p (prime-pos prime) m e)
 
   -- the field's inverse passes the test
   inverse-passes : (b : ℤ/ p) → (Residues p) .mul (residue p m) b ≡ (Residues p) .𝟙 → b .value *ℕ m % p ≡ 1
@@ -73,9 +73,7 @@ module _ (p : ℕ) (prime : Prime p) (m : ℕ) (unit : m % p ≢ 0) where
   number-divided w =
       ap₂ _·_ (number-constant p m) (poly-scale p (prime-pos prime) (inverse p m) w)
       ∙ sym ((PolyRing (Residues p)) .*-assoc (constant (residue p m)) (constant (residue p (inverse p m))) (poly p w))
-      ∙ ap (λ c. c · poly p w)
-      (sym (constant-mul (residue p m) (residue p (inverse p m))) ∙ ap constant one ∙ constant-one (Residues p))
-      ∙ (PolyRing (Residues p)) .*-one (poly p w)
+      ∙ ap (λ c. c · poly p w) (constant-unit (Residues p) one) ∙ (PolyRing (Residues p)) .*-one (poly p w)
     where
       one : (Residues p) .mul (residue p m) (residue p (inverse p m)) ≡ (Residues p) .𝟙
       one =

@@ -4,7 +4,7 @@ use mathlib.Core.Path.{refl}
 use mathlib.Core.Logic.{inl, inr}
 use borrow.Author.Needs.{needs}
 use Rattle.specification.specs.Sheets.{command, atEnd}
-use Rattle.sheets.specs.Transitions.{afterCommand, next-command, next-command-wrong}
+use Rattle.theorems.specs.SheetSteps.{afterCommand, next-command, next-command-wrong}
 use Rattle.sheets.specs.Steps.{there, goes-on, goes-wrong, leads-taken, leads-fault, leads-end}
 use Rattle.sheets.proofs.command_at.Statement.{statement}
 use Rattle.sheets.proofs.command_at.Tie as tie

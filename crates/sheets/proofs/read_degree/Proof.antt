@@ -6,7 +6,7 @@ use native.Mathlib.Omega.{arith}
 use borrow.Author.Needs.{needs}
 use Rattle.specification.specs.Polynomials.{monomial}
 use Rattle.specification.specs.Sheets.{sheetOf, degreeCommand, degreeOperand, command, atEnd}
-use Rattle.sheets.specs.Transitions.{degree-command, degree-command-wrong, degree-operand, degree-operand-wrong}
+use Rattle.theorems.specs.SheetSteps.{degree-command, degree-command-wrong, degree-operand, degree-operand-wrong}
 use Rattle.sheets.specs.Steps.{there, goes-on, goes-wrong, leads-taken, leads-fault, leads-end}
 use Rattle.sheets.proofs.read_degree.Statement.{statement}
 use Rattle.sheets.proofs.read_degree.Tie as tie

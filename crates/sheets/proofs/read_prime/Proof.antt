@@ -4,7 +4,7 @@ use mathlib.Core.Path.{refl, sym, _∙_}
 use native.Mathlib.Omega.{arith}
 use borrow.Author.Needs.{needs}
 use Rattle.specification.specs.Sheets.{primeCommand, primeOperand, degreeCommand, atEnd, readSheet}
-use Rattle.sheets.specs.Transitions.{prime-command, prime-command-wrong, prime-operand, prime-operand-wrong}
+use Rattle.theorems.specs.SheetSteps.{prime-command, prime-command-wrong, prime-operand, prime-operand-wrong}
 use Rattle.sheets.specs.Steps.{there, goes-on, goes-wrong, leads-taken, leads-fault, leads-end}
 use Rattle.sheets.proofs.read_prime.Statement.{statement}
 use Rattle.sheets.proofs.read_prime.Tie as tie
