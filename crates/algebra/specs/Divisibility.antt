@@ -48,6 +48,9 @@ module _ {R : Type 0} (𝓡 : CommRing R) where
   unfolding product
   product-cons a l = refl
 
+  pub product-one : (a : R) → product (a ∷ []) ≡ a
+  product-one a = rw (product-cons a [], product-nil, mul-one 𝓡)
+
   pub product-append : (l m : List R) → product (l ++ m) ≡ product l * product m
   product-append [] m = rw (product-nil, one-mul)
   product-append (a ∷ l) m = rw (product-cons a l, product-cons a (l ++ m), product-append l m, mul-assoc)

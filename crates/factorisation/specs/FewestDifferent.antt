@@ -13,7 +13,7 @@ use Rattle.algebra.specs.Ring.{CommRing, zero-mul, add-left-cancel}
 use Rattle.algebra.specs.Divisibility.{_∣_ as Divides, pow, pow-one, pow-mul, pow-divides, divides-mul, divides-mul-right}
 use Rattle.algebra.specs.Extension.{Extension}
 use Rattle.factorisation.specs.Members.{_∈_, All, product-equal}
-use Rattle.factorisation.specs.Sums.{total, total-one, total-mono, total-swap, member-le, two-le, find}
+use Rattle.factorisation.specs.Sums.{total, total-one, total-mono, total-swap, member-le, two-le, positive-member}
 use Rattle.factorisation.specs.Distinct.{distinct, distinct-keeps, distinct-only}
 use Rattle.factorisation.specs.PrimeElements.{pow-injective}
 use Rattle.factorisation.specs.ExtensionLaws.{number, bar-mul, bar-number, bar-pow, difference, π-injective, binomial}
@@ -105,7 +105,7 @@ module _ {A B : Type 0} {𝓐 : CommRing A} {𝓑 : CommRing B} {bar : A → B} 
     different q = total (λ x. within E x q) (distinct dec L)
 
     class-different : (q : Part E) → q ∈ Q → q .z ≤ different q
-    class-different q i = go (find (λ x. within E x q) L (omega (arith, class-exactly E apart l q i, q .one))) (q .few)
+    class-different q i = go (positive-member (λ x. within E x q) L (omega (arith, class-exactly E apart l q i, q .one))) (q .few)
       where
         b : Block E q L
         b = block E q L

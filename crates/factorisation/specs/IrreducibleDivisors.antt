@@ -33,9 +33,9 @@ use Rattle.factorisation.specs.MonicDivisors.{monic-degree}
 use Rattle.factorisation.specs.Irreducible.{Irreducible}
 
 -- a number below n with a decided property
-search-number : (n : ℕ) (Q : ℕ → Type 0) → ((k : ℕ) → Dec (Q k)) → Dec ((k : ℕ) × (k < n) × Q k)
-search-number zero Q test = no (λ (k, l, q). absurd (omega arith))
-search-number (suc n) Q test = go (test n) (search-number n Q test)
+number-below? : (n : ℕ) (Q : ℕ → Type 0) → ((k : ℕ) → Dec (Q k)) → Dec ((k : ℕ) × (k < n) × Q k)
+number-below? zero Q test = no (λ (k, l, q). absurd (omega arith))
+number-below? (suc n) Q test = go (test n) (number-below? n Q test)
   where
     go : Dec (Q n) → Dec ((k : ℕ) × (k < n) × Q k) → Dec ((k : ℕ) × (k < suc n) × Q k)
     go (yes q) t = yes (n, omega arith, q)
@@ -59,16 +59,16 @@ module _ {R : Type 0} {𝓡 : CommRing R} where
 
 module _ {p : ℕ} (P : Prime p) where
   -- a polynomial of degree below i with a decided property
-  search-poly : (i : ℕ) (Q : Poly (Residues p) → Type 0) → ((a : Poly (Residues p)) → Below i a → Dec (Q a))
+  poly-below? : (i : ℕ) (Q : Poly (Residues p) → Type 0) → ((a : Poly (Residues p)) → Below i a → Dec (Q a))
       → Dec ((a : Poly (Residues p)) × Below i a × Q a)
-  search-poly zero Q test = go (test 𝟎 (below-𝟎 0))
+  poly-below? zero Q test = go (test 𝟎 (below-𝟎 0))
     where
       go : Dec (Q 𝟎) → Dec ((a : Poly (Residues p)) × Below 0 a × Q a)
       go (yes q) = yes (𝟎, below-𝟎 0, q)
       go (no s) = no (λ (a, h, q). s (subst Q (below-zero h) q))
-  search-poly (suc i) Q test =
-      go (search-number p (λ k. (b : Poly (Residues p)) × Below i b × Q (constant (residue p k) + x · b))
-      (λ k. search-poly i (λ b. Q (constant (residue p k) + x · b)) (λ b h. test (constant (residue p k) + x · b) (up k b h))))
+  poly-below? (suc i) Q test =
+      go (number-below? p (λ k. (b : Poly (Residues p)) × Below i b × Q (constant (residue p k) + x · b))
+      (λ k. poly-below? i (λ b. Q (constant (residue p k) + x · b)) (λ b h. test (constant (residue p k) + x · b) (up k b h))))
     where
       up : (k : ℕ) (b : Poly (Residues p)) → Below i b → Below (suc i) (constant (residue p k) + x · b)
       up k b h = below-add (below-up (omega arith) (below-constant (residue p k))) (below-x-mul h)
@@ -84,7 +84,7 @@ module _ {p : ℕ} (P : Prime p) where
 
   monic-divisor? : (i : ℕ) (f : Poly (Residues p)) → Dec (MonicDivisor i f)
   monic-divisor? i f =
-      go (search-poly i (λ r. _∣_ (PolyRing (Residues p)) (x^ i + r) f) (λ r h. divides? (residue-discrete p) (monic-add (monic-pow-x i) h) f))
+      go (poly-below? i (λ r. _∣_ (PolyRing (Residues p)) (x^ i + r) f) (λ r h. divides? (residue-discrete p) (monic-add (monic-pow-x i) h) f))
     where
       lower : (a : Poly (Residues p)) → Monic i a → Below i (a + - x^ i)
       lower a m =
@@ -98,8 +98,8 @@ module _ {p : ℕ} (P : Prime p) where
           whole a = solve (PolyRing (Residues p)) 2 (λ a y. y ⊕ (a ⊖ y) ≈ a) tt a (x^ i)
 
   -- no divisor of lower degree
-  undivided : {d : ℕ} {f : Poly (Residues p)} → 1 ≤ d → Monic d f → ¬ ((j : ℕ) × (j < d - 1) × MonicDivisor (suc j) f) → Irreducible f
-  undivided {d} {f} l m none = record { degree = d; positive = l; monic = m; noProduct = divided }
+  undivided-irreducible : {d : ℕ} {f : Poly (Residues p)} → 1 ≤ d → Monic d f → ¬ ((j : ℕ) × (j < d - 1) × MonicDivisor (suc j) f) → Irreducible f
+  undivided-irreducible {d} {f} l m none = record { degree = d; positive = l; monic = m; noProduct = divided }
     where
       divided : {i e : ℕ} {a b : Poly (Residues p)} → Monic i a → Monic e b → 1 ≤ i → 1 ≤ e → a · b ≡ f → ⊥
       divided {i} {e} {a} {b} ma mb la lb h =
@@ -110,14 +110,14 @@ module _ {p : ℕ} (P : Prime p) where
   divisor-from : (n d : ℕ) (f : Poly (Residues p)) → d ≤ n → 1 ≤ d → Monic d f → IrreducibleDivisor f
   divisor-from zero d f k l m = absurd (omega arith)
   divisor-from (suc n) d f k l m =
-      go (search-number (d - 1) (λ j. MonicDivisor (suc j) f) (λ j. monic-divisor? (suc j) f)) (λ e a. divisor-from n e a)
+      go (number-below? (d - 1) (λ j. MonicDivisor (suc j) f) (λ j. monic-divisor? (suc j) f)) (λ e a. divisor-from n e a)
     where
       go : Dec ((j : ℕ) × (j < d - 1) × MonicDivisor (suc j) f)
           → ((e : ℕ) (a : Poly (Residues p)) → e ≤ n → 1 ≤ e → Monic e a → IrreducibleDivisor a) → IrreducibleDivisor f
       go (yes (j, s, t)) rest =
           let z = rest (suc j) (t .divisor) (omega arith) (omega arith) (t .monic) in
           record { G = z .G; irreducible = z .irreducible; divides = divides-trans (PolyRing (Residues p)) (z .divides) (t .divides) }
-      go (no s) rest = record { G = f; irreducible = undivided l m s; divides = divides-refl (PolyRing (Residues p)) f }
+      go (no s) rest = record { G = f; irreducible = undivided-irreducible l m s; divides = divides-refl (PolyRing (Residues p)) f }
 
   pub irreducible-divisor : {d : ℕ} {f : Poly (Residues p)} → 1 ≤ d → Monic d f → IrreducibleDivisor f
   irreducible-divisor {d} {f} l m = divisor-from d d f (omega arith) l m

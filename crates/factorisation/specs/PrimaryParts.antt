@@ -16,7 +16,7 @@ use Rattle.factorisation.specs.Members.{_∈_, All, all-cons, all-tail}
 use Rattle.factorisation.specs.InOrder.{InOrder}
 use Rattle.factorisation.specs.MonicDivisors.{IsMonic, monic-degree, monic-cancel-eq}
 use Rattle.factorisation.specs.Irreducible.{Irreducible}
-use Rattle.factorisation.specs.UniqueFactorisation.{power, Good, Others, power-coprime, coprime-powers, others}
+use Rattle.factorisation.specs.UniqueFactorisation.{power, PowersOf, Others, power-coprime, coprime-powers, others}
 use Rattle.factorisation.specs.Lifting.{reduce, LiftedPair, lift-two, part-unique}
 
 -- monic, and each coprime to the product of those that follow
@@ -75,20 +75,20 @@ module _ {R : Type 0} {𝓡 : CommRing R} (field : Field 𝓡) where
   )
 
 module _ {A B : Type 0} {𝓐 : CommRing A} {𝓑 : CommRing B} {bar : A → B} (E : Extension 𝓐 𝓑 bar) (field : Field 𝓑) where
-  pub primary-parts : Discrete A → E .lift (𝓑 .𝟙) ≡ 𝓐 .𝟙 → {f : Poly 𝓐} {l : List (Poly 𝓑 × ℕ)} → IsMonic f → Good (reduce E f) l
+  pub primary-parts : Discrete A → E .lift (𝓑 .𝟙) ≡ 𝓐 .𝟙 → {f : Poly 𝓐} {l : List (Poly 𝓑 × ℕ)} → IsMonic f → PowersOf (reduce E f) l
       → (L : List (Poly 𝓐)) × Lifts E f (map power l) L
-  primary-parts decide lift-one {l = l} m good =
-      lifts E (field .one-ne-zero) decide lift-one (map power l) (powers-coprime field l (good .irreducible) (good .different)) m (good .multiplies)
+  primary-parts decide lift-one {l = l} m l-is =
+      lifts E (field .one-ne-zero) decide lift-one (map power l) (powers-coprime field l (l-is .irreducible) (l-is .different)) m (l-is .multiplies)
 
   -- P and P′ divide f, with the cofactors C and C′
-  pub primary-part-unique : {f : Poly 𝓐} {l : List (Poly 𝓑 × ℕ)} → Good (reduce E f) l → (Q : Poly 𝓑 × ℕ) → Q ∈ l
+  pub primary-part-unique : {f : Poly 𝓐} {l : List (Poly 𝓑 × ℕ)} → PowersOf (reduce E f) l → (Q : Poly 𝓑 × ℕ) → Q ∈ l
       → {P P′ : Poly 𝓐} → IsMonic P → IsMonic P′ → reduce E P ≡ power Q → reduce E P′ ≡ power Q
       → (C C′ : Poly 𝓐) → P · C ≡ f → P′ · C′ ≡ f → P ≡ P′
-  primary-part-unique {f} good Q i {P} m m′ b b′ C C′ e e′ =
+  primary-part-unique {f} l-is Q i {P} m m′ b b′ C C′ e e′ =
       part-unique E (field .one-ne-zero) C C′ (m .1) (m′ .1) (e ∙ sym e′) (b ∙ sym b′) (rw (b, cofactor) (power-coprime Q (t .coprime)))
     where
       t : Others Q (reduce E f)
-      t = others field good Q i
+      t = others field l-is Q i
 
       cofactor : reduce E C ≡ t .rest
       cofactor =

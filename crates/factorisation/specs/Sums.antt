@@ -68,10 +68,10 @@ module _ {A : Type 0} where
   two-le f n (there i) (there j) = omega (arith, two-le f n i j)
 
   -- a positive sum has a positive term
-  pub find : (f : A → ℕ) (l : List A) → 1 ≤ total f l → (a : A) × a ∈ l × (1 ≤ f a)
+  pub positive-member : (f : A → ℕ) (l : List A) → 1 ≤ total f l → (a : A) × a ∈ l × (1 ≤ f a)
   unfolding total
-  find f [] e = absurd (omega arith)
-  find f (a ∷ l) e = go (f a) refl (find f l)
+  positive-member f [] e = absurd (omega arith)
+  positive-member f (a ∷ l) e = go (f a) refl (positive-member f l)
     where
       go : (n : ℕ) → f a ≡ n → (1 ≤ total f l → (b : A) × b ∈ l × (1 ≤ f b)) → (b : A) × b ∈ (a ∷ l) × (1 ≤ f b)
       go zero q h = let (b, i, k) = h (omega arith) in (b, there i, k)

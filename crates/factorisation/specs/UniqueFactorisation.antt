@@ -42,7 +42,7 @@ module _ {R : Type 0} {𝓡 : CommRing R} where
   powers-cons P l = product-cons (PolyRing 𝓡) (power P) (map power l)
 
   -- "a product of powers of different monic irreducible G"
-  pub record Good (f : Poly 𝓡) (l : List (Poly 𝓡 × ℕ)) : Type 0 where
+  pub record PowersOf (f : Poly 𝓡) (l : List (Poly 𝓡 × ℕ)) : Type 0 where
     pub irreducible : All (λ P. Irreducible (P .0)) l
     pub positive : All (λ P. 1 ≤ P .1) l
     pub different : InOrder (λ P Q. P .0 ≢ Q .0) l
@@ -92,8 +92,8 @@ module _ {R : Type 0} {𝓡 : CommRing R} where
         }
 
     -- G is coprime to the product of the other powers
-    pub others : {f : Poly 𝓡} {l : List (Poly 𝓡 × ℕ)} → Good f l → (P : Poly 𝓡 × ℕ) → P ∈ l → Others P f
-    others {l = l} good P i = rw (good .multiplies) at (others-in l (good .irreducible) (good .different) P i)
+    pub others : {f : Poly 𝓡} {l : List (Poly 𝓡 × ℕ)} → PowersOf f l → (P : Poly 𝓡 × ℕ) → P ∈ l → Others P f
+    others {l = l} l-is P i = rw (l-is .multiplies) at (others-in l (l-is .irreducible) (l-is .different) P i)
 
     -- an irreducible divisor of the product is one of the bases
     base-of : {G : Poly 𝓡} → Irreducible G → (l : List (Poly 𝓡 × ℕ)) → All (λ P. Irreducible (P .0)) l
@@ -110,46 +110,47 @@ module _ {R : Type 0} {𝓡 : CommRing R} where
         go (inr c) f = let (P, i, e) = f (gauss (PolyRing 𝓡) (coprime-pow (PolyRing 𝓡) (Q .1) c) (rw whole at d)) in (P, there i, e)
 
     -- the exponent is the multiplicity of the base
-    base-multiplicity : {f : Poly 𝓡} {l : List (Poly 𝓡 × ℕ)} → Good f l → (P : Poly 𝓡 × ℕ) → P ∈ l
+    base-multiplicity : {f : Poly 𝓡} {l : List (Poly 𝓡 × ℕ)} → PowersOf f l → (P : Poly 𝓡 × ℕ) → P ∈ l
         → (M : Multiplicity (PolyRing 𝓡) (P .0) f) × (M .k ≡ P .1)
-    base-multiplicity good P i =
-        let t = others good P i in (
+    base-multiplicity l-is P i =
+        let t = others l-is P i in (
           record {
             k = P .1;
             w = t .rest;
             law = (PolyRing 𝓡) .*-comm (t .rest) (power P) ∙ t .multiplies;
-            stop = coprime-not-divides (irreducible-prime field (good .irreducible P i)) (t .coprime);
+            stop = coprime-not-divides (irreducible-prime field (l-is .irreducible P i)) (t .coprime);
           },
           refl,
         )
 
-    pub same-members : {f : Poly 𝓡} {l m : List (Poly 𝓡 × ℕ)} → Good f l → Good f m → All (λ P. P ∈ m) l
-    same-members {f} {l} {m} good good′ P i = go (base-of I m (good′ .irreducible) (rw (good′ .multiplies) divides))
+    pub same-members : {f : Poly 𝓡} {l m : List (Poly 𝓡 × ℕ)} → PowersOf f l → PowersOf f m → All (λ P. P ∈ m) l
+    same-members {f} {l} {m} l-is m-is P i = go (base-of I m (m-is .irreducible) (rw (m-is .multiplies) divides))
       where
         I : Irreducible (P .0)
-        I = good .irreducible P i
+        I = l-is .irreducible P i
 
         divides : _∣_ (PolyRing 𝓡) (P .0) f
         divides =
-            let t = others good P i in
+            let t = others l-is P i in
+            let once : 1 ≤ P .1 = l-is .positive P i in
             rw (← t .multiplies)
-            (divides-mul-right (PolyRing 𝓡) (t .rest) (rw (pow-one (PolyRing 𝓡) (P .0)) at (pow-divides (PolyRing 𝓡) (P .0) (good .positive P i))))
+            (divides-mul-right (PolyRing 𝓡) (t .rest) (rw (pow-one (PolyRing 𝓡) (P .0)) at (pow-divides (PolyRing 𝓡) (P .0) once)))
 
         go : (Q : Poly 𝓡 × ℕ) × (Q ∈ m) × (P .0 ≡ Q .0) → P ∈ m
         go (Q, j, e) = Memᴰ·cast (λ t. (e t, same t)) j
           where
             M : (M : Multiplicity (PolyRing 𝓡) (P .0) f) × (M .k ≡ P .1)
-            M = base-multiplicity good P i
+            M = base-multiplicity l-is P i
 
             N : (N : Multiplicity (PolyRing 𝓡) (P .0) f) × (N .k ≡ Q .1)
-            N = rw e (base-multiplicity good′ Q j)
+            N = rw e (base-multiplicity m-is Q j)
 
             same : P .1 ≡ Q .1
             same = sym (M .1) ∙ multiplicity-unique (irreducible-prime field I .cancel) (M .0) (N .0) ∙ N .1
 
     -- "in one way"
     pub factorisation-unique : {before : Poly 𝓡 → Poly 𝓡 → Type 0} → StrictOrder before → {f : Poly 𝓡} {l m : List (Poly 𝓡 × ℕ)}
-        → Good f l → Good f m → InOrder (λ P Q. before (P .0) (Q .0)) l → InOrder (λ P Q. before (P .0) (Q .0)) m → l ≡ m
-    factorisation-unique O {l = l} {m} good good′ h k =
-        in-order-unique (record { irreflexive = λ b. O .irreflexive b; transitive = λ b c. O .transitive b c }) l m h k (same-members good good′)
-        (same-members good′ good)
+        → PowersOf f l → PowersOf f m → InOrder (λ P Q. before (P .0) (Q .0)) l → InOrder (λ P Q. before (P .0) (Q .0)) m → l ≡ m
+    factorisation-unique O {l = l} {m} l-is m-is h k =
+        in-order-unique (record { irreflexive = λ b. O .irreflexive b; transitive = λ b c. O .transitive b c }) l m h k (same-members l-is m-is)
+        (same-members m-is l-is)

@@ -7,8 +7,8 @@ use Prim.Native.Nat.{ℕ, _<_}
 use native.Mathlib.Omega.{arith}
 use Rattle.specification.specs.Polynomials as spec
 use Rattle.specification.specs.Claims as claims
-use Rattle.algebra.specs.Ring.{CommRing, mul-one}
-use Rattle.algebra.specs.Divisibility.{product, product-nil, product-cons, product-append}
+use Rattle.algebra.specs.Ring.{CommRing}
+use Rattle.algebra.specs.Divisibility.{product, product-one, product-cons, product-append}
 use Rattle.algebra.specs.Residues.{Residues}
 use Rattle.algebra.specs.Polynomials.{PolyRing}
 use Rattle.algebra.specs.Degree.{Monic}
@@ -41,5 +41,5 @@ module _ {n : ℕ} (large : 1 < n) where
 pub product-then : {A R : Type 0} (𝓡 : CommRing R) (f : A → R) (xs : List A) (y : A) → product 𝓡 (map f (then xs y)) ≡ product 𝓡 (f y ∷ map f xs)
 product-then 𝓡 f xs y =
     ap (product 𝓡) (map-append f xs (y ∷ [])) ∙ product-append 𝓡 (map f xs) (f y ∷ [])
-    ∙ ap (𝓡 .mul (product 𝓡 (map f xs))) (product-cons 𝓡 (f y) [] ∙ ap (𝓡 .mul (f y)) (product-nil 𝓡) ∙ mul-one 𝓡 (f y))
+    ∙ ap (𝓡 .mul (product 𝓡 (map f xs))) (product-one 𝓡 (f y))
     ∙ 𝓡 .*-comm (product 𝓡 (map f xs)) (f y) ∙ sym (product-cons 𝓡 (f y) (map f xs))

@@ -11,10 +11,10 @@ use Rattle.specification.specs.Parts.{partOf, partsOf}
 use Rattle.specification.specs.Totals.{members, listOf, total, different}
 use Rattle.specification.specs.Claims as claims
 use Rattle.algebra.specs.Numbers.{square-large}
-use Rattle.algebra.specs.Ring.{CommRing, mul-one}
-use Rattle.algebra.specs.Divisibility.{product, product-nil, product-cons}
+use Rattle.algebra.specs.Ring.{CommRing}
+use Rattle.algebra.specs.Divisibility.{product, product-one}
 use Rattle.algebra.specs.Residues.{Residues}
-use Rattle.algebra.specs.Polynomials.{PolyRing, _·_}
+use Rattle.algebra.specs.Polynomials.{PolyRing}
 use Rattle.algebra.specs.Homomorphisms.{monic-map}
 use Rattle.algebra.specs.Fields.{Prime, residue-nontrivial}
 use Rattle.algebra.specs.CoefficientLists.{ℤ[x]/, poly, poly-mul, poly-product}
@@ -168,5 +168,4 @@ module _ (p : ℕ) (prime : Prime p) {d : ℕ} {f : spec.Poly} (mf : MonicList (
           let m = known p prime mf P i .over .monic in
           let once = monic-list-product (square-large p large) (primary p f P ∷ []) (all-cons (P .exponent *ℕ spec.degree (P .base), m) (λ q j. elim j [ ])) in
           monic-equal (square-large p large) (once .1) m
-          (poly-product (p *ℕ p) positive (primary p f P ∷ []) ∙ product-cons 𝓐 _ _ ∙ ap (λ a. poly (p *ℕ p) (primary p f P) · a) (product-nil 𝓐)
-          ∙ mul-one 𝓐 (poly (p *ℕ p) (primary p f P)))
+          (poly-product (p *ℕ p) positive (primary p f P ∷ []) ∙ product-one 𝓐 (poly (p *ℕ p) (primary p f P)))

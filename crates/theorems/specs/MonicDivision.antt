@@ -3,12 +3,12 @@
 -- and what `highest` finds. Assumes nothing.
 use mathlib.Core.Path.{_≡_, refl, sym, _∙_, subst}
 use mathlib.Core.Bool.{Bool, true, false}
-use Prim.Native.Nat.{ℕ, zero, suc, _≤_, _<_, _-_, _+_ as _+ℕ_, _*_ as _*ℕ_}
-use mathlib.Core.Logic.{⊎-elim}
-use native.Mathlib.Nat.{zero-mul, suc-mul, add-comm, eq-or-lt-of-le}
-use native.Mathlib.Omega.{arith}
 use mathlib.Core.List.{List, [], _∷_}
 use mathlib.Core.List.{List·Memᴰ·head as here}
+use mathlib.Core.Logic.{⊎-elim}
+use Prim.Native.Nat.{ℕ, zero, suc, _≤_, _<_, _-_, _+_ as _+ℕ_, _*_ as _*ℕ_}
+use native.Mathlib.Nat.{zero-mul, suc-mul, add-comm, eq-or-lt-of-le}
+use native.Mathlib.Omega.{arith}
 use lib.ListN.{getD}
 use lib.Dec.{T}
 use Rattle.specification.specs.Polynomials as spec

@@ -1,9 +1,8 @@
 -- The shape of parts that an answer's size rests on: `PartShape n P`, factors monic modulo n, none of lower degree than the base,
 -- whose degrees add up to the part's. Proves that each of the three totals is at most the sum of the parts' degrees. Assumes nothing.
-use mathlib.Core.Path.{_≡_, _∙_, ap}
+use mathlib.Core.Path.{_≡_, refl, _∙_, ap}
 use mathlib.Core.List.{List, [], _∷_, flatMap}
 use mathlib.Core.List.{List·Memᴰ·head as here}
-use mathlib.Core.Path.{refl}
 use Prim.Native.Nat.{ℕ, _≤_, _+_, _-_, _*_}
 use native.Mathlib.Nat.{mul-le-mul-left, mul-le-mul-right}
 use native.Mathlib.Omega.{arith}

@@ -16,7 +16,7 @@ use Rattle.algebra.specs.CoefficientLists.{ℤ[x]/, poly, poly-mul, poly-pow, p
 use Rattle.factorisation.specs.Members.{_∈_, all-map}
 use Rattle.factorisation.specs.InOrder.{StrictOrder, InOrder, in-order-by, in-order-map, in-order-unique}
 use Rattle.factorisation.specs.Irreducible.{Irreducible}
-use Rattle.factorisation.specs.UniqueFactorisation.{powers, Good, same-members}
+use Rattle.factorisation.specs.UniqueFactorisation.{powers, PowersOf, same-members}
 use Rattle.theorems.specs.MonicLists.{from-claims}
 use Rattle.theorems.specs.Factorisations.{monic-equal}
 use Rattle.theorems.specs.ItemOrder.{item-3}
@@ -58,8 +58,8 @@ module _ (p : ℕ) (prime : Prime p) where
       ∙ ap₂ _·_ (poly-pow p (omega (arith, large)) (P .base) (P .exponent)) (poly-powers Ps)
       ∙ sym (product-cons (PolyRing (Residues p)) _ _)
 
-  pub pairs-good : {f : spec.Poly} {Ps : List Power} → claims.PowersOf p f Ps → Good (poly p f) (map pair Ps)
-  pairs-good {f} {Ps} h = record {
+  pub as-powers-of : {f : spec.Poly} {Ps : List Power} → claims.PowersOf p f Ps → PowersOf (poly p f) (map pair Ps)
+  as-powers-of {f} {Ps} h = record {
     irreducible = all-map (λ Q. Irreducible (Q .0)) pair Ps (λ P i. irreducible-poly large (h .irreducible P i));
     positive = all-map (λ Q. 1 ≤ Q .1) pair Ps (h .positive);
     different = in-order-map (λ P Q. poly p (P .base) ≢ poly p (Q .base)) (λ P Q. P .0 ≢ Q .0) pair Ps (λ P Q n. n)
@@ -74,7 +74,7 @@ module _ (p : ℕ) (prime : Prime p) where
     where
       included : {f : spec.Poly} (Ps Qs : List Power) → claims.PowersOf p f Ps → claims.PowersOf p f Qs → (P : Power) → P ∈ Ps → P ∈ Qs
       included Ps Qs h k P i =
-          let (Q, j, e) = Memᴰ·of-map pair Qs (same-members (residue-field p prime) (pairs-good h) (pairs-good k) (pair P) (Memᴰ·map pair i)) in
+          let (Q, j, e) = Memᴰ·of-map pair Qs (same-members (residue-field p prime) (as-powers-of h) (as-powers-of k) (pair P) (Memᴰ·map pair i)) in
           let b : P .base ≡ Q .base = same-base (h .irreducible P i .monic) (k .irreducible Q j .monic) (sym (ap (λ t. t .0) e)) in
           let c : P .exponent ≡ Q .exponent = sym (ap (λ t. t .1) e) in
           Memᴰ·cast (λ t. record { base = b t; exponent = c t }) j

@@ -13,7 +13,7 @@ use Rattle.specification.specs.Claims as claims
 use Rattle.algebra.specs.Numbers.{square-large}
 use Rattle.algebra.specs.Divisibility.{_∣_, product}
 use Rattle.algebra.specs.Residues.{ℤ/, residue, Residues, residue-one, value-residue}
-use Rattle.algebra.specs.Polynomials.{PolyRing}
+use Rattle.algebra.specs.Polynomials.{PolyRing, _·_}
 use Rattle.algebra.specs.Degree.{Monic}
 use Rattle.algebra.specs.Extension.{residue-lift}
 use Rattle.algebra.specs.Fields.{Prime, residue-field, residue-discrete, residue-nontrivial}
@@ -24,13 +24,13 @@ use Rattle.algebra.specs.ListLaws.{first-passes}
 use Rattle.algebra.specs.ListDivision.{divides-sound, divides-complete}
 use Rattle.factorisation.specs.Members.{_∈_, all-map, member-divides}
 use Rattle.factorisation.specs.MonicDivisors.{monic-degree}
-use Rattle.factorisation.specs.UniqueFactorisation.{power, Good}
+use Rattle.factorisation.specs.UniqueFactorisation.{power, PowersOf}
 use Rattle.factorisation.specs.PrimaryParts.{Lifts, primary-parts, primary-part-unique}
 use Rattle.theorems.specs.MonicLists.{MonicList, list, poly-list, from-claims, list-monic, monic-poly, monic-same}
 use Rattle.theorems.specs.MonicDivision.{Divides, monic-list-pow, monic-list-product}
 use Rattle.theorems.specs.Factorisations.{monic-equal}
 use Rattle.theorems.specs.Reductions.{coefficients, barred, bar-poly, lifts-member, lifts-has}
-use Rattle.theorems.specs.PowersOnly.{pair, pairs-good}
+use Rattle.theorems.specs.PowersOnly.{pair, as-powers-of}
 
 module _ (p : ℕ) (prime : Prime p) {d : ℕ} {f : spec.Poly} (mf : MonicList (p *ℕ p) d f) {Ps : List Power}
     (items : claims.PowersOf p (spec.reduce p f) Ps) where
@@ -40,12 +40,11 @@ module _ (p : ℕ) (prime : Prime p) {d : ℕ} {f : spec.Poly} (mf : MonicList (
   abbrev large² : 1 < p *ℕ p
   large² = square-large p large
 
-  F : ℤ[x]/ (p *ℕ p)
+  abbrev F : ℤ[x]/ (p *ℕ p)
   F = poly (p *ℕ p) f
 
-  good : Good (barred p large F) (map (pair p prime) Ps)
-  unfolding F
-  good = rw (bar-poly p large f, ← poly-reduce p (omega (arith, large)) f) (pairs-good p prime items)
+  bar-powers : PowersOf (barred p large F) (map (pair p prime) Ps)
+  bar-powers = rw (bar-poly p large f, ← poly-reduce p (omega (arith, large)) f) (as-powers-of p prime items)
 
   lift-one : (coefficients p large) .lift ((Residues p) .𝟙) ≡ (Residues (p *ℕ p)) .𝟙
   lift-one =
@@ -55,7 +54,11 @@ module _ (p : ℕ) (prime : Prime p) {d : ℕ} {f : spec.Poly} (mf : MonicList (
 
   -- the parts over ℤ/p²
   parts : (L : List (ℤ[x]/ (p *ℕ p))) × Lifts (coefficients p large) F (map power (map (pair p prime) Ps)) L
-  parts = primary-parts (coefficients p large) (residue-field p prime) (residue-discrete (p *ℕ p)) lift-one (d, unfold F in monic-poly mf) good
+  parts = primary-parts (coefficients p large) (residue-field p prime) (residue-discrete (p *ℕ p)) lift-one (d, monic-poly mf) bar-powers
+
+  -- a divisor of F times its cofactor
+  times : (X : ℤ[x]/ (p *ℕ p)) (v : _∣_ (PolyRing (Residues (p *ℕ p))) X F) → X · v .0 ≡ F
+  times X v = (PolyRing (Residues (p *ℕ p))) .*-comm X (v .0) ∙ v .1
 
   -- one power of the list
   module _ (P : Power) (i : P ∈ Ps) where
@@ -95,7 +98,7 @@ module _ (p : ℕ) (prime : Prime p) {d : ℕ} {f : spec.Poly} (mf : MonicList (
           (mPower .reduced)
           (poly-reduce p (omega (arith, large)) (list (suc D) X) ∙ sym (bar-poly p large (list (suc D) X)) ∙ ap (barred p large) back ∙ e
           ∙ sym (poly-pow p (omega (arith, large)) (P .base) (P .exponent)));
-      divides = rw back (unfold F in v);
+      divides = rw back v;
     }
       where
         mq : MonicList (p *ℕ p) D (list (suc D) X)
@@ -124,13 +127,11 @@ module _ (p : ℕ) (prime : Prime p) {d : ℕ} {f : spec.Poly} (mf : MonicList (
         record { monic = m; bar = b; divides = divides-sound (p *ℕ p) (omega (arith, large²)) D (primary p f P) (m .reduced .len) (monic-poly m) f t }
 
     pub part-only : (q : spec.Poly) → IsPart q → q ≡ primary p f P
-    unfolding F
     part-only q h =
         monic-same refl (h .monic) (primary-is .monic)
-        (primary-part-unique (coefficients p large) (residue-field p prime) good (pair p prime P) (Memᴰ·map (pair p prime) i)
+        (primary-part-unique (coefficients p large) (residue-field p prime) bar-powers (pair p prime P) (Memᴰ·map (pair p prime) i)
         (D, monic-poly (h .monic)) (D, monic-poly (primary-is .monic)) (bar-power q (h .bar)) (bar-power (primary p f P) (primary-is .bar))
-        (h .divides .0) (primary-is .divides .0) ((PolyRing (Residues (p *ℕ p))) .*-comm _ _
-        ∙ h .divides .1) ((PolyRing (Residues (p *ℕ p))) .*-comm _ _ ∙ primary-is .divides .1))
+        (h .divides .0) (primary-is .divides .0) (times _ (h .divides)) (times _ (primary-is .divides)))
 
   -- ---- all parts
 
@@ -153,9 +154,9 @@ module _ (p : ℕ) (prime : Prime p) {d : ℕ} {f : spec.Poly} (mf : MonicList (
       one X Q k i e =
           let v = rw (parts .1 .multiplies) at (member-divides (PolyRing (Residues (p *ℕ p))) k) in
           let h = primary-is Q i in
-          primary-part-unique (coefficients p large) (residue-field p prime) good (pair p prime Q) (Memᴰ·map (pair p prime) i)
+          primary-part-unique (coefficients p large) (residue-field p prime) bar-powers (pair p prime Q) (Memᴰ·map (pair p prime) i)
           (parts .1 .monic X k) (D Q i, monic-poly (h .monic)) e (bar-power Q i (primary p f Q) (h .bar))
-          (v .0) (h .divides .0) ((PolyRing (Residues (p *ℕ p))) .*-comm _ _ ∙ v .1) (unfold F in (PolyRing (Residues (p *ℕ p))) .*-comm _ _ ∙ h .divides .1)
+          (v .0) (h .divides .0) (times X v) (times _ (h .divides))
 
       poly-is : poly (p *ℕ p) (spec.product (p *ℕ p) (map (primary p f) Ps)) ≡ poly (p *ℕ p) f
       poly-is =
@@ -164,4 +165,4 @@ module _ (p : ℕ) (prime : Prime p) {d : ℕ} {f : spec.Poly} (mf : MonicList (
           (map-map (poly (p *ℕ p)) (primary p f) Ps
           ∙ sym (all-equal (parts .0) Ps (λ Q. power (pair p prime Q)) (λ Q. poly (p *ℕ p) (primary p f Q)) (parts .1 .bars
           ∙ map-map power (pair p prime) Ps) one))
-          ∙ parts .1 .multiplies ∙ unfold F in refl
+          ∙ parts .1 .multiplies
