@@ -53,7 +53,7 @@ module _ (p : ℕ) (pos : 0 < p) where
       (polynomials-has k f (record { len = omega (arith, r .len); low = λ i. r .low (suc i) }))
       (Memᴰ·map (before f) (upFrom-has 0 p (omega arith) (omega (arith, r .low 0))))
 
-polynomials-in-order : (p k : ℕ) → InOrder Smaller (polynomials p k)
+pub polynomials-in-order : (p k : ℕ) → InOrder Smaller (polynomials p k)
 unfolding polynomials below
 polynomials-in-order p zero = ((λ f i. elim i [ ]), tt)
 polynomials-in-order p (suc k) =
