@@ -161,6 +161,10 @@ module _ {R : Type 0} (𝓡 : CommRing R) where
     law = ap (λ z. h .u * a + z) (𝓡 .*-assoc (h .v) q c ∙ ap (λ z. h .v * z) e) ∙ h .law;
   }
 
+  -- what divides both of two coprime elements divides 𝟙
+  pub coprime-common : {a b c : R} → Coprime a b → c ∣ a → c ∣ b → c ∣ 𝟙
+  coprime-common h d e = rw (← h .law) (divides-add (divides-mul (h .u) d) (divides-mul (h .v) e))
+
   -- Gauss: a divisor of b·c that is coprime to c divides b
   pub gauss : {a b c : R} → Coprime a c → a ∣ b * c → a ∣ b
   gauss {a} {b} {c} h (q, e) = (

@@ -20,7 +20,7 @@ use Rattle.factorisation.specs.UniqueFactorisation.{power, PowersOf, Oth
 use Rattle.factorisation.specs.Lifting.{reduce, LiftedPair, lift-two, part-unique}
 
 -- monic, and each coprime to the product of those that follow
-abbrev pub CoprimeMonics : {R : Type 0} {𝓡 : CommRing R} → List (Poly 𝓡) → Type 0
+abbrev CoprimeMonics : {R : Type 0} {𝓡 : CommRing R} → List (Poly 𝓡) → Type 0
 CoprimeMonics [] = Unit {0}
 CoprimeMonics {𝓡 = 𝓡} (X ∷ l) = IsMonic X × Coprime (PolyRing 𝓡) X (product (PolyRing 𝓡) l) × CoprimeMonics l
 
@@ -50,7 +50,7 @@ module _ {A B : Type 0} {𝓐 : CommRing A} {𝓑 : CommRing B} {bar : A → B} 
       multiplies = product-cons (PolyRing 𝓐) (t .a) L ∙ ap (λ c. t .a · c) (h .multiplies) ∙ t .multiplies;
     }
 
-    pub lifts : Discrete A → E .lift (𝓑 .𝟙) ≡ 𝓐 .𝟙 → (l : List (Poly 𝓑)) → CoprimeMonics l → {f : Poly 𝓐} → IsMonic f
+    lifts : Discrete A → E .lift (𝓑 .𝟙) ≡ 𝓐 .𝟙 → (l : List (Poly 𝓑)) → CoprimeMonics l → {f : Poly 𝓐} → IsMonic f
         → product (PolyRing 𝓑) l ≡ reduce E f → (L : List (Poly 𝓐)) × Lifts f l L
     lifts decide lift-one [] c m e = ([], lift-nil (m .1) e)
     lifts decide lift-one (X ∷ l) (mX, c, cs) {f} m e =

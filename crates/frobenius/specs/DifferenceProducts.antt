@@ -8,7 +8,7 @@ use mathlib.Core.List.{List·Memᴰ·head as here, List·Memᴰ·tail as there}
 use native.Mathlib.Omega.{arith}
 use Rattle.algebra.specs.Ring.{CommRing, mul-left-comm, linear1}
 use Rattle.algebra.specs.Identities.{con, _⊕_, _⊖_, _⊗_, ⊝_, _≈_, solve}
-use Rattle.algebra.specs.Divisibility.{_∣_, Coprime, product, product-nil, product-cons, divides-add, divides-mul, coprime-one, coprime-mul}
+use Rattle.algebra.specs.Divisibility.{_∣_, Coprime, product, product-nil, product-cons, coprime-one, coprime-mul, coprime-common}
 use Rattle.algebra.specs.Polynomials.{Poly, PolyRing, _+_, _·_, -_, 𝟎, 𝟏, constant}
 use Rattle.algebra.specs.Degree.{monic-zero, monic-one}
 use Rattle.algebra.specs.Leading.{poly-discrete}
@@ -77,9 +77,7 @@ module _ {R : Type 0} {𝓡 : CommRing R} where
     coprime-gcd z c = monic-zero (rw none at (z .monic))
       where
         unit : _∣_ (PolyRing 𝓡) (z .combined .gcd) 𝟏
-        unit =
-            rw (← c .law)
-            (divides-add (PolyRing 𝓡) (divides-mul (PolyRing 𝓡) (c .u) (z .combined .left)) (divides-mul (PolyRing 𝓡) (c .v) (z .combined .right)))
+        unit = coprime-common (PolyRing 𝓡) c (z .combined .left) (z .combined .right)
 
         none : z .degree ≡ 0
         none = omega (arith, divisor-degree (field .one-ne-zero) (z .monic) monic-one unit)

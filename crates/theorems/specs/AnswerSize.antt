@@ -91,7 +91,8 @@ unfolding coefficientBytes
 bytes-coefficients i [] l h = byte-none
 bytes-coefficients i (zero ∷ f) l h = bytes-coefficients (suc i) f (omega arith) (λ k u. h (suc k) (omega arith))
 bytes-coefficients i (suc a ∷ f) l h =
-    all-cons (omega arith) (all-cons (omega arith) (all-cons (h 0 (omega arith)) (bytes-coefficients (suc i) f (omega arith) (λ k u. h (suc k) (omega arith)))))
+    all-cons (omega arith) (all-cons (omega arith)
+    (all-cons (h 0 (omega arith)) (bytes-coefficients (suc i) f (omega arith) (λ k u. h (suc k) (omega arith)))))
 
 module _ {n : ℕ} (small : n ≤ 256) where
   bytes-factors : {d : ℕ} (qs : List Factor) → All (FactorShape n d) qs → Byte (degrees qs) → All Byte (flatMap factorBytes qs)

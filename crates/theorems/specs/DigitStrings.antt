@@ -3,7 +3,6 @@
 use mathlib.Core.Path.{_≡_, refl, sym, _∙_, ap, subst}
 use mathlib.Core.List.{List, [], _∷_, map, flatMap, Memᴰ·of-map, Memᴰ·map, Memᴰ·cast}
 use mathlib.Core.List.{List·Memᴰ·head as here, List·Memᴰ·tail as there}
-use mathlib.Core.Logic.{⊎-elim}
 use Prim.Native.Nat.{ℕ, zero, suc, _<_, _*_, _^_}
 use native.Mathlib.Nat.{pow-zero, pow-suc}
 use native.Mathlib.Omega.{arith}
@@ -14,9 +13,11 @@ use Rattle.specification.specs.Powers.{polynomials}
 use Rattle.specification.specs.Claims.{Smaller}
 use Rattle.specification.specs.Promises.{NoneTwice, Counted}
 use Rattle.algebra.specs.CoefficientLists.{Reduced}
+use Rattle.algebra.specs.ListLaws.{upFrom-length}
 use Rattle.factorisation.specs.Members.{_∈_, All, all-cons, all-tail}
 use Rattle.factorisation.specs.InOrder.{InOrder}
 use Rattle.theorems.specs.Enumeration.{polynomials-member, polynomials-has, polynomials-in-order}
+use Rattle.theorems.specs.ItemOrder.{smaller-irreflexive}
 use Rattle.theorems.specs.Numberings.{Digits, Numbered}
 
 -- ---- digits are coefficients
@@ -38,11 +39,6 @@ reduced-digits {p} {ds = ds} r = record { count = r .len; low = low ds (r .low) 
 
 -- ---- how many there are
 
-length-upFrom : (b k : ℕ) → length (upFrom b k) ≡ k
-unfolding upFrom
-length-upFrom b zero = refl
-length-upFrom b (suc k) = ap suc (length-upFrom (suc b) k)
-
 length-flatMap : {A B : Type 0} (f : A → List B) (n : ℕ) (l : List A) → ((a : A) → length (f a) ≡ n) → length (flatMap f l) ≡ length l * n
 unfolding flatMap
 length-flatMap f n [] h = omega arith
@@ -52,20 +48,16 @@ length-polynomials : (p k : ℕ) → length (polynomials p k) ≡ p ^ k
 unfolding polynomials below
 length-polynomials p zero = sym (pow-zero p)
 length-polynomials p (suc k) =
-    length-flatMap (λ (f : Poly). map (λ (a : ℕ). a ∷ f) (below p)) p (polynomials p k) (λ f. length-map (upFrom 0 p) (λ a. a ∷ f) ∙ length-upFrom 0 p)
+    length-flatMap (λ (f : Poly). map (λ (a : ℕ). a ∷ f) (below p)) p (polynomials p k) (λ f. length-map (upFrom 0 p) (λ a. a ∷ f) ∙ upFrom-length 0 p)
     ∙ ap (λ (n : ℕ). n * p) (length-polynomials p k) ∙ sym (pow-suc p k)
 
 -- ---- none stands twice
-
-smaller-differs : (f : Poly) → Smaller f f → ⊥
-smaller-differs [] s = s
-smaller-differs (a ∷ f) s = ⊎-elim (smaller-differs f) (λ (e, l). absurd (omega arith)) s
 
 -- a map that is one to one on a list in order
 none-twice : {A : Type 0} (g : Poly → A) (l : List Poly) → InOrder Smaller l → ((f h : Poly) → f ∈ l → h ∈ l → g f ≡ g h → f ≡ h) → NoneTwice (map g l)
 none-twice g [] o one = tt
 none-twice g (f ∷ l) (first, o) one = (
-  λ i. let (h, j, e) = Memᴰ·of-map g l i in smaller-differs h (subst (λ a. Smaller a h) (one f h (here refl) (there j) (sym e)) (first h j)),
+  λ i. let (h, j, e) = Memᴰ·of-map g l i in smaller-irreflexive h (subst (λ a. Smaller a h) (one f h (here refl) (there j) (sym e)) (first h j)),
   none-twice g l o (λ f h i j. one f h (there i) (there j)),
 )
 

@@ -12,7 +12,7 @@ use Rattle.specification.specs.Claims.{Smaller, Before}
 use Rattle.algebra.specs.Numbers.{lt-or-le}
 use Rattle.factorisation.specs.InOrder.{StrictOrder}
 
-smaller-irreflexive : (f : Poly) → Smaller f f → ⊥
+pub smaller-irreflexive : (f : Poly) → Smaller f f → ⊥
 smaller-irreflexive [] s = s
 smaller-irreflexive (a ∷ f) s = ⊎-elim (smaller-irreflexive f) (λ (e, l). omega arith) s
 

@@ -11,7 +11,7 @@ use Rattle.specification.specs.Powers.{Power, powers, primary}
 use Rattle.specification.specs.Claims as claims
 use Rattle.algebra.specs.Numbers.{square-large}
 use Rattle.algebra.specs.Ring.{CommRing}
-use Rattle.algebra.specs.Divisibility.{_∣_, Coprime, pow, divides-add, divides-mul, coprime-sym, coprime-pow}
+use Rattle.algebra.specs.Divisibility.{_∣_, Coprime, pow, coprime-sym, coprime-pow, coprime-common}
 use Rattle.algebra.specs.Residues.{Residues}
 use Rattle.algebra.specs.Polynomials.{PolyRing}
 use Rattle.algebra.specs.Degree.{monic-one}
@@ -50,8 +50,7 @@ module _ (p : ℕ) (prime : Prime p) {d : ℕ} {f : spec.Poly} (mf : MonicList (
         arith,
         monic .positive,
         divisor-degree (residue-nontrivial (prime .large)) (monic-poly (from-claims (prime-pos prime) monic)) monic-one
-            (subst (_∣_ 𝓑 (poly p c)) (powers-coprime .law)
-            (divides-add 𝓑 (divides-mul 𝓑 (powers-coprime .u) (divides P i x e)) (divides-mul 𝓑 (powers-coprime .v) (divides Q j y g)))),
+            (coprime-common 𝓑 powers-coprime (divides P i x e) (divides Q j y g)),
       )
     where
       base-list : (P : Power) → P ∈ powers p f → MonicList p (spec.degree (P .base)) (P .base)

@@ -12,8 +12,7 @@ use lib.Seq.{getD-take, length-take-le}
 use Rattle.specification.specs.Polynomials as spec
 use Rattle.specification.specs.Powers.{lifts, polynomials}
 use Rattle.specification.specs.Parts.{digitLift}
-use Rattle.algebra.specs.Numbers.{square-large}
-use Rattle.algebra.specs.Numbers.{lt-or-le}
+use Rattle.algebra.specs.Numbers.{lt-or-le, square-large}
 use Rattle.algebra.specs.Residues.{residue, Residues, residue-add, residue-mul}
 use Rattle.algebra.specs.Polynomials.{PolyRing, _+_, _·_, constant, poly-ext, coef-add, coef-constant-mul}
 use Rattle.algebra.specs.Degree.{Below, Monic, below-up, monic-add}
@@ -49,7 +48,7 @@ module _ (p : ℕ) (large : 1 < p) where
   large² = square-large p large
 
   -- digits below p read modulo p²
-  pub digits-monic : {d : ℕ} {q : spec.Poly} → MonicList p d q → MonicList (p *ℕ p) d q
+  digits-monic : {d : ℕ} {q : spec.Poly} → MonicList p d q → MonicList (p *ℕ p) d q
   digits-monic m = record {
     reduced = record { len = m .reduced .len; low = λ k. omega (arith, m .reduced .low k, mul-le-mul-left p (let l : 1 ≤ p = omega arith in l)) };
     leads = m .leads;
