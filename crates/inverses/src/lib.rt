@@ -1,8 +1,6 @@
 // The inverses of the 70 units modulo 4, 9, 25 and 49, in one table of arrays by prime.
-ghost use mathlib.Core.Path.{_≡_};
-ghost use mathlib.Core.Bool.{cond};
 ghost use lib.ListN.{getD};
-ghost use Rattle.specification.specs.Limits.{primes, taken};
+ghost use Rattle.specification.specs.Limits.{primes};
 ghost use Rattle.inverses.specs.Rule.{Rule};
 ghost use Rattle.inverses.specs.Table.{Inverses};
 ghost use Rattle.inverses.specs.Answer.{Answer};
@@ -221,19 +219,6 @@ fn table() -> [[u16; 49]; 4]
     INVERSES
 }
 
-// The row of a taken prime; past the table for any other number.
-fn row_of(prime: u8) -> usize
-    ensures { λ r. ⌜ getD primes r 0 ≡ cond (taken prime) prime 0 ⌝ }
-{
-    match prime {
-        2 => 0,
-        3 => 1,
-        5 => 2,
-        7 => 3,
-        _ => 4,
-    }
-}
-
 // The table's entry; 0 outside the table.
 fn entry_at(row: usize, a: usize) -> u16
     ensures { λ r. ⌜ Rule (getD primes row 0) a r ⌝ }
@@ -250,5 +235,5 @@ fn entry_at(row: usize, a: usize) -> u16
 pub fn inverse(prime: u8, a: u16) -> u16
     ensures { λ r. ⌜ Answer prime a r ⌝ }
 {
-    entry_at(row_of(prime), a as usize)
+    entry_at(primes::place(prime), a as usize)
 }

@@ -2,7 +2,6 @@
 // Each entry point gives back, field by field, what the specification gives for the same records; none has a `requires`.
 ghost use mathlib.Core.Path.{_≡_};
 ghost use Prim.Native.Nat.{_*_};
-ghost use Rattle.specification.specs.Limits as limits;
 ghost use Rattle.specification.specs.Records as records;
 ghost use Rattle.specification.specs.Polynomials as lists;
 ghost use Rattle.polynomial.specs.Views.{asRecord, asResult, asDivision, accepted, refusedRecord, refused, divided, refusedDivision};
@@ -26,16 +25,6 @@ pub struct Division {
     pub place: usize,
     pub quotient: Poly,
     pub remainder: Poly,
-}
-
-// The taken primes: but for the table of inverses no other place of the code knows them.
-pub fn taken(prime: u8) -> bool
-    ensures { λ r. ⌜ r ≡ limits.taken prime ⌝ }
-{
-    match prime {
-        2 | 3 | 5 | 7 => true,
-        _ => false,
-    }
 }
 
 // p², the modulus of a record.
@@ -111,7 +100,7 @@ fn refuse(number: u8) -> Answer
 fn fixed(prime: u8, coefs: [u16; 33]) -> Answer
     ensures { λ r. ⌜ asResult r ≡ records.result (records.primeNumber prime) (record { prime = prime; coefficients = coefs }) ⌝ }
 {
-    if taken(prime) {
+    if primes::taken(prime) {
         accept(prime, coefs)
     } else {
         refuse(10)
@@ -123,7 +112,7 @@ pub fn proper(a: Poly) -> bool
     ensures { λ r. ⌜ r ≡ records.proper (asRecord a) ⌝ }
 {
     let coefs = a.coefs;
-    if taken(a.prime) {
+    if primes::taken(a.prime) {
         modular::all_below(coefs, square(a.prime))
     } else {
         false

@@ -9,7 +9,7 @@ ghost use Rattle.reading.specs.Found.{CoefficientsOf, FactorOf, ItemOf, 
 use modular::product;
 use polynomial::Poly;
 use polynomial::square;
-use polynomial::taken;
+use primes::taken;
 
 // What the bytes can belong to, if anything.
 pub struct Candidate {

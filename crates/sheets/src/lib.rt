@@ -9,7 +9,7 @@ ghost use Rattle.sheets.specs.Views.{sheetRead, refusal, polyIn, Held};
 ghost use Rattle.sheets.specs.Steps.{ByteAt, PrimeRead, DegreeRead, CommandRead, IndexRead, ValueRead};
 use polynomial::Poly;
 use polynomial::square;
-use polynomial::taken;
+use primes::taken;
 
 // What a sheet is read as: number 0 and place 0 with its prime and polynomial, or a fault with the zero polynomial of prime 2.
 pub struct SheetRead {

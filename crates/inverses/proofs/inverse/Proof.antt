@@ -9,6 +9,6 @@ pub inverse-spec : {M : Type 1} → statement M
 inverse-spec =
     tie.close
     (tie.spec
-    (λ c κs. search needs)  -- row-of-requires
+    (λ c κs. search needs)  -- place-requires
     (λ c κs. search needs)  -- entry-at-requires
-    (λ c. answer _ _ _ (rw (c .before .row-of .ensures) at (c .entry-at .ensures))))  -- returns
+    (λ c. answer _ _ _ (rw (c .before .place .ensures .entry) at (c .entry-at .ensures))))  -- returns
