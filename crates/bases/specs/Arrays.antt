@@ -2,13 +2,11 @@
 -- Proves that the one represents the derivative, and that the other is the p-th root where the derivative is 𝟎. Assumes nothing.
 use mathlib.Core.Path.{_≡_, sym, _∙_, ap}
 use mathlib.Core.List.{List}
-use mathlib.Core.Logic.{⊎-elim}
 use Prim.Native.Nat.{ℕ, suc, _≤_, _<_, _%_, _+_ as _+ℕ_, _*_ as _*ℕ_}
 use native.Mathlib.Nat.{mod-lt, mul-le-mul-right}
 use native.Mathlib.Omega.{arith}
 use lib.ListN.{getD, replicate, length-replicate}
-use Rattle.loops.specs.Entries.{Replaced}
-use Rattle.algebra.specs.Numbers.{lt-or-le}
+use Rattle.loops.specs.Entries.{Replaced, replaced-each}
 use Rattle.algebra.specs.Residues.{residue, Residues, residue-zero, residue-mul, residue-mod}
 use Rattle.algebra.specs.Polynomials.{𝟎, poly-ext}
 use Rattle.algebra.specs.Degree.{Below}
@@ -27,8 +25,7 @@ Stored f r i = Replaced 0 f (replicate 33 0) 0 r i
 module _ {f : ℕ → ℕ} {r : List ℕ} {i : ℕ} (h : Stored f r i) where
   -- what holds of the stored entries, and of 0 from i on, holds of every entry
   entries : (Q : ℕ → ℕ → Type 0) → ((k : ℕ) → k < i → Q k (f k)) → ((k : ℕ) → i ≤ k → Q k 0) → (k : ℕ) → Q k (getD r k 0)
-  entries Q new rest k =
-      ⊎-elim (λ l. rw (h .new k (omega arith) l) (new k l)) (λ l. rw (h .above k l, getD-zeros 33 k) (rest k l)) (lt-or-le k i)
+  entries Q new rest = replaced-each Q h (λ k l. absurd (omega arith)) (λ k l. new k) (λ k l. rw (getD-zeros 33 k) (rest k l))
 
   reduced-stored : {p : ℕ} → 0 < p → ((k : ℕ) → f k < p) → Reduced p 33 r
   reduced-stored {p} pos low = record { len = h .len ∙ length-replicate {A = ℕ} 33 0; low = entries (λ k v. v < p) (λ k l. low k) (λ k l. pos) }

@@ -5,12 +5,10 @@ use mathlib.Core.List.{List}
 use mathlib.Core.Logic.{_≢_}
 use Prim.Native.Nat.{ℕ, suc, _≤_, _<_, _-_, _+_ as _+ℕ_}
 use native.Mathlib.Omega.{arith}
-use Rattle.algebra.specs.Ring.{add-zero}
 use Rattle.algebra.specs.Divisibility.{pow-suc}
 use Rattle.algebra.specs.Residues.{Residues}
 use Rattle.algebra.specs.Polynomials.{PolyRing, _·_, 𝟎}
-use Rattle.algebra.specs.Degree.{Monic, below-𝟎, monic-pow}
-use Rattle.algebra.specs.Division.{divided-unique}
+use Rattle.algebra.specs.Degree.{Monic, monic-pow}
 use Rattle.algebra.specs.Leading.{monic-cofactor}
 use Rattle.algebra.specs.Fields.{Prime, residue-field, residue-discrete}
 use Rattle.algebra.specs.CoefficientLists.{poly, Reduced}
@@ -20,7 +18,7 @@ use Rattle.frobenius.specs.Derivatives.{derivative}
 use Rattle.frobenius.specs.PrimaryPowers.{PrimaryPower}
 use Rattle.frobenius.specs.PowerBases.{power-gcd}
 use Rattle.modular.specs.Arrays.{size-nonzero}
-use Rattle.modular.specs.Division.{DividedBy}
+use Rattle.modular.specs.Division.{DividedBy, divided-exactly}
 use Rattle.euclid.specs.CommonDivisors.{GcdOf}
 use Rattle.bases.specs.declared.Base.{Base}
 use Rattle.bases.specs.declared.Power.{Power}
@@ -37,10 +35,7 @@ module _ {p d : ℕ} (P : Prime p) {q : List ℕ} {w : Power} (B : SameBase p d 
     (hg : GcdOf p (w .derivative) (w .coefs) (w .degree) g e) (hb : DividedBy p (w .coefs) g e b r) where
   multiplies : poly p b · poly p g ≡ poly p (w .coefs)
   multiplies =
-      ap (λ a. a · poly p g)
-      (divided-unique (hg .monic) (poly p b) (poly p r) (hg .right .0) 𝟎 (hb .small) (below-𝟎 e)
-      (hb .law ∙ sym (hg .right .1) ∙ sym (add-zero (PolyRing (Residues p)) (hg .right .0 · poly p g))) .0)
-      ∙ hg .right .1
+      ap (λ a. a · poly p g) (divided-exactly p (w .coefs) g (hg .monic) hb (hg .right .0) (hg .right .1) .0) ∙ hg .right .1
 
   quotient-monic : Monic (w .degree - e) (poly p b)
   quotient-monic = go (monic-cofactor (residue-discrete p) (residue-field p P .one-ne-zero) (poly p b) (poly p g) (hg .monic) (rw multiplies (B .monic)))

@@ -15,9 +15,10 @@ use Rattle.algebra.specs.CoefficientLists.{ℤ[x]/, poly, Reduced, coef-poly}
 use Rattle.frobenius.specs.Span.{less}
 use Rattle.frobenius.specs.Reduction.{Stage, Reducing, reducing-more, reducing-down}
 use Rattle.modular.specs.Coefficients.{Represents, Size, below-size}
+use Rattle.modular.specs.Multiples.{multiple-taken-off}
 use Rattle.modular.specs.Arrays.{size-small}
 use Rattle.dependency.specs.declared.Row.{Row}
-use Rattle.dependency.specs.Rows.{past, imageAt, preimageAt, Rows, slot-filled, represents-less}
+use Rattle.dependency.specs.Rows.{past, imageAt, preimageAt, Rows, slot-filled}
 
 -- whatever the map t may be of which the rows are images
 pub record ReducedTo (p d i : ℕ) (rows : List Row) (v : Row) (k : ℕ) (r : Row) : Type 0 where
@@ -58,12 +59,12 @@ module _ {p d i : ℕ} {rows : List Row} {v : Row} where
 
     image-is : poly p u ≡ less (poly p (r .image)) (poly p (r .image) .coef (k - 1)) (imageAt p rows (k - 1))
     image-is =
-        represents-less (omega (arith, low)) (imageAt p rows (k - 1)) (poly p (r .image)) (getD (r .image) (k - 1) 0) (omega (arith, low)) hu
+        multiple-taken-off p (omega (arith, low)) (omega (arith, low)) (poly p (r .image)) (imageAt p rows (k - 1)) hu
         ∙ ap (λ c. less (poly p (r .image)) c (imageAt p rows (k - 1))) (sym (coef-poly p (r .image) (k - 1)))
 
     preimage-is : poly p w ≡ less (poly p (r .preimage)) (poly p (r .image) .coef (k - 1)) (preimageAt p rows (k - 1))
     preimage-is =
-        represents-less (omega (arith, low)) (preimageAt p rows (k - 1)) (poly p (r .preimage)) (getD (r .image) (k - 1) 0) (omega (arith, low)) hw
+        multiple-taken-off p (omega (arith, low)) (omega (arith, low)) (poly p (r .preimage)) (preimageAt p rows (k - 1)) hw
         ∙ ap (λ c. less (poly p (r .preimage)) c (preimageAt p rows (k - 1))) (sym (coef-poly p (r .image) (k - 1)))
 
     -- the leading term is gone

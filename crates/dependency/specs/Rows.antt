@@ -1,23 +1,21 @@
 -- Rows in an array of 33 slots: `imageAt p rows k` and `preimageAt p rows k` are the polynomials of slot k. `Rows p i rows`: the image in slot k
 -- is monic of degree k, where the slot is not free, and the preimage has a lower degree than i.
--- Proves what the rows of a stage are, that no row is stored at first, when a slot is free, and what the code's multiples are. Assumes nothing.
-use mathlib.Core.Path.{_≡_, refl, sym, _∙_, ap, ap₂}
+-- Proves what the rows of a stage are, that no row is stored at first, and when a slot is free. Assumes nothing.
+use mathlib.Core.Path.{_≡_, refl, sym, _∙_, ap}
 use mathlib.Core.List.{List, []}
 use mathlib.Core.Logic.{_⊎_, _≢_, ⊎-elim}
-use Prim.Native.Nat.{ℕ, _<_, _≤_, _-_, zero-le}
+use Prim.Native.Nat.{ℕ, _<_, _≤_, zero-le}
 use lib.ListN.{getD, replicate, getD-replicate, List·getD-eq-default}
-use Rattle.algebra.specs.Ring.{neg-mul}
 use Rattle.algebra.specs.Numbers.{lt-or-le}
-use Rattle.algebra.specs.Residues.{residue, residue-zero, Residues}
-use Rattle.algebra.specs.Polynomials.{PolyRing, _+_, _·_, -_, 𝟎, constant}
-use Rattle.algebra.specs.Monomials.{x^, shift-zero}
+use Rattle.algebra.specs.Residues.{residue, residue-zero}
+use Rattle.algebra.specs.Polynomials.{𝟎}
 use Rattle.algebra.specs.Degree.{Below, Monic, below-𝟎}
 use Rattle.algebra.specs.Fields.{residue-nontrivial}
 use Rattle.algebra.specs.CoefficientLists.{ℤ[x]/, poly, Reduced, poly-nil, coef-poly}
 use Rattle.algebra.specs.ListDivision.{poly-zeros}
-use Rattle.frobenius.specs.Span.{less, Slot}
+use Rattle.frobenius.specs.Span.{Slot}
 use Rattle.frobenius.specs.Reduction.{Stage, stage-none}
-use Rattle.modular.specs.Coefficients.{Represents, zeros, constant-residue-neg}
+use Rattle.modular.specs.Coefficients.{zeros}
 use Rattle.modular.specs.Arrays.{zero-above}
 use Rattle.dependency.specs.declared.Row.{Row}
 
@@ -73,17 +71,3 @@ module _ (p : ℕ) {t : ℕ → ℤ[x]/ p} {m n o : ℕ} where
 
 pub free-reduced : {p : ℕ} → 0 < p → ReducedRows p (replicate 33 free)
 free-reduced {p} pos k l = rw (getD-replicate 33 k free past l) (zeros p pos .reduced)
-
-module _ {p : ℕ} (pos : 0 < p) {r : List ℕ} (b : ℤ[x]/ p) where
-  -- p − c stands for −c
-  pub represents-less : (a : ℤ[x]/ p) (c : ℕ) → c ≤ p → Represents p r (a + constant (residue p (p - c)) · (x^ 0 · b)) → poly p r ≡ less a (residue p c) b
-  represents-less a c l h =
-      h .is
-      ∙ ap (λ e. a + e)
-      (ap₂ _·_ (constant-residue-neg p pos l) (shift-zero b) ∙ neg-mul (PolyRing (Residues p)) (constant (residue p c)) b)
-
-  pub represents-multiple : (c : ℕ) → Represents p r (poly p (replicate 33 0) + constant (residue p c) · (x^ 0 · b))
-      → poly p r ≡ constant (residue p c) · b
-  represents-multiple c h =
-      h .is ∙ ap₂ (λ z e. z + constant (residue p c) · e) (zeros p pos .is) (shift-zero b)
-      ∙ (PolyRing (Residues p)) .+-zero (constant (residue p c) · b)

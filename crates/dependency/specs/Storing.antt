@@ -6,20 +6,19 @@ use mathlib.Core.List.{List}
 use mathlib.Core.Logic.{_≢_}
 use Prim.Native.Nat.{ℕ, suc, _<_, _≤_, _*_ as _*ℕ_, _%_}
 use native.Mathlib.Decide.{ℕ-discrete}
-use lib.ListN.{length, getD, set, replicate, length-set}
+use lib.ListN.{length, getD, set, length-set}
 use lib.Seq.{getD-set-same, getD-set-other}
 use Rattle.algebra.specs.Residues.{ℤ/, residue, Residues}
-use Rattle.algebra.specs.Polynomials.{_+_, _·_, 𝟎, constant}
-use Rattle.algebra.specs.Monomials.{x^}
+use Rattle.algebra.specs.Polynomials.{_·_, 𝟎, constant}
 use Rattle.algebra.specs.Degree.{Below}
-use Rattle.algebra.specs.Fields.{Prime, prime-pos, residue-field}
+use Rattle.algebra.specs.Fields.{Prime, residue-field}
 use Rattle.algebra.specs.CoefficientLists.{ℤ[x]/, poly, Reduced, coef-poly}
 use Rattle.frobenius.specs.Reduction.{Stage, Reducing}
 use Rattle.frobenius.specs.LeastDependency.{stage-more}
 use Rattle.modular.specs.Coefficients.{Represents}
 use Rattle.modular.specs.Inverse.{residue-inverse}
 use Rattle.dependency.specs.declared.Row.{Row}
-use Rattle.dependency.specs.Rows.{past, imageAt, preimageAt, ReducedRows, represents-multiple}
+use Rattle.dependency.specs.Rows.{past, imageAt, preimageAt, ReducedRows}
 
 pub record MonicRow (p : ℕ) (v : Row) (k : ℕ) (r : Row) : Type 0 where
   pub scale : ℤ/ p
@@ -42,14 +41,13 @@ row-stored {p} {rows} {v} {k} {w} l h = record {
 
 -- c is the inverse of the leading coefficient
 pub monic-row : {p : ℕ} → Prime p → {v : Row} {k : ℕ} (c : ℕ) {u w : List ℕ} → getD (v .image) k 0 *ℕ c % p ≡ 1
-    → Represents p u (poly p (replicate 33 0) + constant (residue p c) · (x^ 0 · poly p (v .image)))
-    → Represents p w (poly p (replicate 33 0) + constant (residue p c) · (x^ 0 · poly p (v .preimage)))
+    → Represents p u (constant (residue p c) · poly p (v .image)) → Represents p w (constant (residue p c) · poly p (v .preimage))
     → MonicRow p v k (record { image = u; preimage = w })
 monic-row {p} P {v} {k} c e hu hw = record {
   scale = residue p c;
   unit = ap ((Residues p) .mul (residue p c)) (coef-poly p (v .image) k) ∙ residue-inverse P (getD (v .image) k 0) c e;
-  image = represents-multiple (prime-pos P) (poly p (v .image)) c hu;
-  preimage = represents-multiple (prime-pos P) (poly p (v .preimage)) c hw;
+  image = hu .is;
+  preimage = hw .is;
   reduced = hu .reduced;
 }
 

@@ -2,6 +2,7 @@
 // The images are brought into echelon form, each beside a polynomial that goes to it. All is public for the crates above, and no entry point.
 use modular::add_multiple;
 use modular::inverse;
+use modular::multiple;
 use modular::size;
 ghost use mathlib.Core.Path.{_≡_};
 ghost use Prim.Native.Nat.{_<_, _≤_, _+_ as _+ℕ_};
@@ -90,12 +91,11 @@ pub fn monic_row(v: Row, k: usize, i: usize, p: u16) -> Row
         × Below (k +ℕ 1) (poly p (v .image)) × Below (i +ℕ 1) (poly p (v .preimage)) ⌝ }
     ensures { λ r. ⌜ MonicRow p v k r ⌝ }
 {
-    let zero = [0u16; 33];
     let a = v.image;
     let b = v.preimage;
     let c = inverse(a[k], p);
-    let u = add_multiple(zero, c, a, 0, k + 1, p);
-    let w = add_multiple(zero, c, b, 0, i + 1, p);
+    let u = multiple(c, a, k + 1, p);
+    let w = multiple(c, b, i + 1, p);
     Row {
         image: u,
         preimage: w,

@@ -4,44 +4,31 @@ use mathlib.Core.Path.{_≡_, sym, _∙_, ap}
 use mathlib.Core.List.{List}
 use Prim.Native.Nat.{ℕ, _*_, _%_, _<_, _-_}
 use native.Mathlib.Omega.{arith}
-use lib.ListN.{getD, replicate}
-use Rattle.algebra.specs.Identities.{con, _⊕_, _⊗_, _≈_, solve}
+use lib.ListN.{getD}
+use Rattle.algebra.specs.Identities.{_⊗_, _≈_, solve}
 use Rattle.algebra.specs.Divisibility.{_∣_, divides-mul}
-use Rattle.algebra.specs.Residues.{residue, Residues, residue-one, residue-mul, residue-mod}
-use Rattle.algebra.specs.Polynomials.{PolyRing, _+_, _·_, 𝟏, constant, constant-mul, constant-one, coef-constant-mul}
+use Rattle.algebra.specs.Residues.{residue, Residues}
+use Rattle.algebra.specs.Polynomials.{PolyRing, _·_, 𝟏, constant, constant-mul, constant-one, coef-constant-mul}
 use Rattle.algebra.specs.Degree.{Monic, below-up, below-constant-mul}
+use Rattle.algebra.specs.Fields.{Prime}
 use Rattle.algebra.specs.CoefficientLists.{ℤ[x]/, poly, coef-poly}
-use Rattle.algebra.specs.Monomials.{x^, shift-zero}
-use Rattle.modular.specs.Coefficients.{Represents, Size, zeros, below-size}
+use Rattle.modular.specs.Coefficients.{Represents, Size, below-size}
+use Rattle.modular.specs.Inverse.{residue-inverse}
 
 pub record MonicMultipleOf (p : ℕ) (a : List ℕ) (s : ℕ) (r : List ℕ) (c : ℕ) : Type 0 where
   pub multiple : Represents p r (constant (residue p c) · poly p a)
   pub monic : Monic (s - 1) (poly p r)
 
--- 0 + c·x^0·a
-pub multiple-represented : (p c : ℕ) (a r : List ℕ) → 0 < p
-    → Represents p r (poly p (replicate 33 0) + constant (residue p c) · (x^ 0 · poly p a)) → Represents p r (constant (residue p c) · poly p a)
-multiple-represented p c a r pos h = record {
-  reduced = h .reduced;
-  is = h .is
-      ∙ ap (λ z. z + constant (residue p c) · (x^ 0 · poly p a)) ((zeros p pos) .is)
-      ∙ ap (λ y. (PolyRing (Residues p)) .𝟘 + constant (residue p c) · y) (shift-zero (poly p a))
-      ∙ solve (PolyRing (Residues p)) 2 (λ c a. con 0 ⊕ c ⊗ a ≈ c ⊗ a) tt (constant (residue p c)) (poly p a);
-}
-
 module _ {p : ℕ} {a : List ℕ} {s : ℕ} {r : List ℕ} {c : ℕ} where
-  pub monic-by-inverse : 0 < p → Size a s → 0 < s → c * getD a (s - 1) 0 % p ≡ 1 → Represents p r (constant (residue p c) · poly p a)
+  pub monic-by-inverse : Prime p → Size a s → 0 < s → getD a (s - 1) 0 * c % p ≡ 1 → Represents p r (constant (residue p c) · poly p a)
       → MonicMultipleOf p a s r c
-  monic-by-inverse pos z l e h = record {
+  monic-by-inverse P z l e h = record {
     multiple = h;
     monic = record {
       leading = ap (λ f. f .coef (s - 1)) (h .is)
           ∙ coef-constant-mul (residue p c) (poly p a) (s - 1)
           ∙ ap ((Residues p) .mul (residue p c)) (coef-poly p a (s - 1))
-          ∙ sym (residue-mul p c (getD a (s - 1) 0))
-          ∙ sym (residue-mod p pos (c * getD a (s - 1) 0))
-          ∙ ap (residue p) e
-          ∙ residue-one p;
+          ∙ residue-inverse P (getD a (s - 1) 0) c e;
       below = rw (h .is) (below-up (omega arith) (below-constant-mul (residue p c) (below-size p z)));
     };
   }

@@ -1,12 +1,10 @@
 // Euclid's algorithm on polynomials over ℤ/p, p a prime, on arrays of 33 coefficients: the monic multiple, the monic gcd, and the
 // monic gcd with one cofactor. All is public for the crates above, and no entry point of the library.
 ghost use Prim.Native.Nat.{_<_, _≤_};
-ghost use Rattle.algebra.specs.Residues.{residue};
-ghost use Rattle.algebra.specs.Polynomials.{_·_, constant};
 ghost use Rattle.algebra.specs.Degree.{Below, Monic};
 ghost use Rattle.algebra.specs.Fields.{Prime};
 ghost use Rattle.algebra.specs.CoefficientLists.{poly, Reduced};
-ghost use Rattle.modular.specs.Coefficients.{Represents, Size};
+ghost use Rattle.modular.specs.Coefficients.{Size};
 ghost use Rattle.euclid.specs.MonicMultiples.{MonicMultipleOf};
 ghost use Rattle.euclid.specs.Rows.{ReducedRow, MonicRow, Formed};
 ghost use Rattle.euclid.specs.DividedRow.{Operands, DividedRow};
@@ -55,22 +53,13 @@ pub struct CommonDivisor {
     pub cofactor: [u16; 33],
 }
 
-// c·a, where a has s terms.
-fn multiple(c: u16, a: [u16; 33], s: usize, p: u16) -> [u16; 33]
-    requires { ⌜ (0 < p) × (s ≤ 33) × Below s (poly p a) ⌝ }
-    ensures { λ r. ⌜ Represents p r (constant (residue p c) · poly p a) ⌝ }
-{
-    let zero = [0u16; 33];
-    modular::add_multiple(zero, c, a, 0, s, p)
-}
-
 // The monic multiple of a, which is not 0 and has the size s.
 pub fn monic_multiple(a: [u16; 33], s: usize, p: u16) -> MonicMultiple
     requires { ⌜ Prime p × Reduced p 33 a × Size a s × (0 < s) ⌝ }
     ensures { λ r. ⌜ MonicMultipleOf p a s (r .array) (r .unit) ⌝ }
 {
     let unit = modular::inverse(a[s - 1], p);
-    let array = multiple(unit, a, s, p);
+    let array = modular::multiple(unit, a, s, p);
     MonicMultiple {
         array: array,
         unit: unit,
@@ -85,7 +74,7 @@ fn monic_row(r: Row, s: usize, d: usize, p: u16) -> Row
     let a = r.remainder;
     let u = r.cofactor;
     let m = monic_multiple(a, s, p);
-    let v = multiple(m.unit, u, d, p);
+    let v = modular::multiple(m.unit, u, d, p);
     let f = m.array;
     Row {
         remainder: f,

@@ -7,7 +7,7 @@ use lib.ListN.{replicate}
 use Prim.Native.Nat.{ℕ, _≤_, _<_, _-_, _+_ as _+ℕ_, _*_ as _*ℕ_}
 use native.Mathlib.Omega.{arith}
 use Rattle.specification.specs.Limits.{taken}
-use Rattle.algebra.specs.Identities.{con, _⊕_, _≈_, solve}
+use Rattle.algebra.specs.Ring.{zero-add}
 use Rattle.algebra.specs.Divisibility.{Coprime}
 use Rattle.algebra.specs.Residues.{Residues}
 use Rattle.algebra.specs.Polynomials.{PolyRing, _+_, _·_}
@@ -122,5 +122,5 @@ module _ {p : ℕ} {f : List ℕ} {d : ℕ} (M : Monics p f d) where
 pub bar-is : (p : ℕ) (f r : List ℕ) → 0 < p → Represents p r (poly p (replicate 33 0) + poly p f) → Represents p r (poly p f)
 bar-is p f r pos h = record {
   reduced = h .reduced;
-  is = h .is ∙ ap (λ a. a + poly p f) (zeros p pos .is) ∙ solve (PolyRing (Residues p)) 1 (λ f. con 0 ⊕ f ≈ f) tt (poly p f);
+  is = h .is ∙ ap (λ a. a + poly p f) (zeros p pos .is) ∙ zero-add (PolyRing (Residues p)) (poly p f);
 }

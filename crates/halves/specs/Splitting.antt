@@ -1,28 +1,26 @@
--- Coprime factors by a splitting element: `Split`, what is given, `HalvesOf`, what comes of it, and `Coprimes`, what the loop over the
--- constants has seen. Proves that a gcd of degree 1 or more splits Q, and that one of the constants has such a gcd. Assumes nothing.
-use mathlib.Core.Path.{_≡_, sym, _∙_, ap₂, subst}
+-- Coprime factors by a splitting element: `Split`, what is given, `HalvesOf`, what comes of it, and `CoprimeTo`, what the loop has seen of each
+-- constant. Proves that a gcd of degree 1 or more splits Q, and that one of the constants has such a gcd. Assumes nothing.
+use mathlib.Core.Path.{_≡_, sym, _∙_, ap, subst}
 use mathlib.Core.List.{List, _∷_}
 use mathlib.Core.Logic.{_≢_, inl}
 use lib.ListN.{replicate}
 use Prim.Native.Nat.{ℕ, _≤_, _<_, _-_, _+_ as _+ℕ_}
 use native.Mathlib.Nat.{pos-of-ne-zero}
-use native.Mathlib.Decide.{ℕ-discrete}
 use native.Mathlib.Omega.{arith}
-use Rattle.algebra.specs.Ring.{CommRing, add-zero}
-use Rattle.algebra.specs.Identities.{con, _⊕_, _⊖_, _⊗_, ⊝_, _≈_, solve}
+use Rattle.algebra.specs.Ring.{CommRing, mul-one}
 use Rattle.algebra.specs.Divisibility.{Coprime, divides-mul, divides-add}
 use Rattle.algebra.specs.Residues.{ℤ/, residue, Residues, residue-value, value-below}
-use Rattle.algebra.specs.Polynomials.{PolyRing, _+_, _·_, -_, 𝟎, 𝟏, constant, constant-zero}
-use Rattle.algebra.specs.Monomials.{x^, shift-zero}
-use Rattle.algebra.specs.Degree.{Below, Monic, below-𝟎, below-add, below-neg, below-up, below-constant, below-zero, monic-zero, monic-one, monic-mul}
-use Rattle.algebra.specs.Division.{divided-unique}
+use Rattle.algebra.specs.Polynomials.{PolyRing, _+_, _·_, -_, 𝟏, constant, constant-zero}
+use Rattle.algebra.specs.Monomials.{x^}
+use Rattle.algebra.specs.Degree.{Below, Monic, below-add, below-neg, below-up, below-constant, below-zero, monic-zero, monic-one, monic-mul}
 use Rattle.algebra.specs.Fields.{Prime, prime-pos, residue-field, residue-nontrivial}
 use Rattle.algebra.specs.Bezout.{MonicBezout, bezout-monic}
 use Rattle.algebra.specs.CoefficientLists.{ℤ[x]/, poly, Reduced}
 use Rattle.factorisation.specs.MonicDivisors.{monic-antisym, monic-degree, monic-nonzero}
 use Rattle.frobenius.specs.SplittingElements.{CoprimeFactors, SplittingElement, splitting-constant, splitting-factors}
-use Rattle.modular.specs.Coefficients.{Represents, poly-unit, constant-residue-neg}
-use Rattle.modular.specs.Division.{DividedBy}
+use Rattle.modular.specs.Coefficients.{Represents, poly-unit}
+use Rattle.modular.specs.Multiples.{multiple-taken-off}
+use Rattle.modular.specs.Division.{DividedBy, divided-exactly}
 use Rattle.euclid.specs.CommonDivisors.{GcdOf}
 
 -- Q is monic of degree d, and v is a splitting element of it
@@ -50,9 +48,9 @@ pub less-constant : (p c : ℕ) (v r : List ℕ) → 0 < p → c ≤ p
     → Represents p r (poly p v + constant (residue p (p - c)) · (x^ 0 · poly p (1 ∷ replicate 32 0))) → Represents p r (poly p v + - constant (residue p c))
 less-constant p c v r pos l h = record {
   reduced = h .reduced;
-  is = h .is
-      ∙ ap₂ (λ a b. poly p v + a · b) (constant-residue-neg p pos l) (shift-zero (poly p (1 ∷ replicate 32 0)) ∙ poly-unit p 32)
-      ∙ solve (PolyRing (Residues p)) 2 (λ v c. v ⊕ ⊝ c ⊗ con 1 ≈ v ⊖ c) tt (poly p v) (constant (residue p c));
+  is = multiple-taken-off p pos l (poly p v) (poly p (1 ∷ replicate 32 0)) h
+      ∙ ap (λ a. poly p v + - (constant (residue p c) · a)) (poly-unit p 32)
+      ∙ ap (λ a. poly p v + - a) (mul-one (PolyRing (Residues p)) (constant (residue p c)));
 }
 
 module _ {p : ℕ} {q v : List ℕ} {d : ℕ} (S : Split p q d v) where
@@ -73,6 +71,10 @@ module _ {p : ℕ} {q v : List ℕ} {d : ℕ} (S : Split p q d v) where
 
   pub less-small : (c : ℕ) → Below d (less c)
   less-small c = below-add (S .splits .small) (below-neg (below-up positive (below-constant (residue p c))))
+
+  -- the gcd of Q and v − c is 1
+  abbrev pub CoprimeTo : ℕ → Type 0
+  CoprimeTo c = (z : MonicBezout (residue-field p (S .prime)) (poly p q) (less c)) → z .combined .gcd ≡ 𝟏
 
   module _ (c : ℕ) {w g : List ℕ} {e : ℕ} (hw : Represents p w (less c)) (hg : GcdOf p w q d g e) where
     -- g is the gcd that Bézout finds
@@ -104,9 +106,7 @@ module _ {p : ℕ} {q v : List ℕ} {d : ℕ} (S : Split p q d v) where
         }
           where
             same : poly p b ≡ b′
-            same =
-                divided-unique (hg .monic) (poly p b) (poly p r) b′ 𝟎 (h .small) (below-𝟎 e)
-                (h .law ∙ sym (F .multiplies) ∙ 𝓑 .*-comm (poly p g) b′ ∙ sym (add-zero 𝓑 (b′ · poly p g))) .0
+            same = divided-exactly p q g (hg .monic) h b′ (𝓑 .*-comm b′ (poly p g) ∙ F .multiplies) .0
 
             same-degree : F .i ≡ e
             same-degree = monic-degree nontrivial (F .monic-a) (hg .monic)
@@ -119,21 +119,10 @@ module _ {p : ℕ} {q v : List ℕ} {d : ℕ} (S : Split p q d v) where
             degree = omega (arith, degrees, same-degree)
 
     -- a gcd of degree 0 is 1
-    pub coprime-at : e ≤ 0 → (z : MonicBezout (residue-field p (S .prime)) (poly p q) (less c)) → z .combined .gcd ≡ 𝟏
+    pub coprime-at : e ≤ 0 → CoprimeTo c
     coprime-at l z = same-gcd z ∙ monic-zero (rw (let k : e ≡ 0 = omega arith in k) at (hg .monic))
 
-  -- the gcd of Q and v − k is 1, for k below c
-  abbrev pub Coprimes : ℕ → Type 0
-  Coprimes c = (k : ℕ) → k < c → (z : MonicBezout (residue-field p (S .prime)) (poly p q) (less k)) → z .combined .gcd ≡ 𝟏
-
-  pub coprimes-more : (c : ℕ) → Coprimes c → ((z : MonicBezout (residue-field p (S .prime)) (poly p q) (less c)) → z .combined .gcd ≡ 𝟏) → Coprimes (c +ℕ 1)
-  coprimes-more c h new k l = at (ℕ-discrete k c)
-    where
-      at : Dec (k ≡ c) → (z : MonicBezout (residue-field p (S .prime)) (poly p q) (less k)) → z .combined .gcd ≡ 𝟏
-      at (yes e) = rw e new
-      at (no n) = h k (omega (arith, n))
-
-  pub not-all : Coprimes p → ⊥
+  pub not-all : ((c : ℕ) → c < p → CoprimeTo c) → ⊥
   not-all h = go (splitting-constant (S .prime) (S .monic) (S .splits))
     where
       go : (c : ℤ/ p) × ((z : MonicBezout (residue-field p (S .prime)) (poly p q) (poly p v + - constant c)) → z .combined .gcd ≢ 𝟏) → ⊥

@@ -3,12 +3,11 @@
 use mathlib.Core.Path.{_≡_, sym, _∙_, ap, ap₂}
 use mathlib.Core.List.{List, map}
 use Prim.Native.Nat.{ℕ, _≤_, _<_, _/_, _+_ as _+ℕ_, _*_ as _*ℕ_}
-use native.Mathlib.Nat.{zero-div, div-lt-iff-lt-mul, mod-eq-of-lt}
-use native.Mathlib.Omega.{arith}
+use native.Mathlib.Nat.{zero-div, div-lt-iff-lt-mul}
 use lib.ListN.{length, getD, length-map}
 use Rattle.algebra.specs.Ring.{CommRing, linear1}
 use Rattle.algebra.specs.Identities.{con, _⊕_, _⊖_, _⊗_, _≈_, solve}
-use Rattle.algebra.specs.Residues.{residue, Residues, residue-one, same-remainder}
+use Rattle.algebra.specs.Residues.{residue, Residues, residue-one}
 use Rattle.algebra.specs.Polynomials.{PolyRing, _+_, _·_, -_, 𝟏, constant}
 use Rattle.algebra.specs.Degree.{Below, Monic, monic-mul}
 use Rattle.algebra.specs.Homomorphisms.{below-map}
@@ -22,7 +21,7 @@ use Rattle.factorisation.specs.PolynomialExtension.{below-part}
 use Rattle.theorems.specs.Reductions.{coefficients, barred, bar-poly}
 use Rattle.theorems.specs.ListExtension.{extension, π-is, part-list}
 use Rattle.modular.specs.Coefficients.{Represents}
-use Rattle.modular.specs.Arrays.{below-modulo}
+use Rattle.modular.specs.Arrays.{same-number, below-modulo}
 
 -- f is monic modulo p², and modulo p it is a·b
 pub record Factors (p : ℕ) (f a : List ℕ) (i : ℕ) (b : List ℕ) (j : ℕ) : Type 0 where
@@ -42,13 +41,10 @@ pub record Defect (p : ℕ) (f a : List ℕ) (i : ℕ) (b : List ℕ) (j : ℕ) 
   pub law : poly (p *ℕ p) f ≡ poly (p *ℕ p) a · poly (p *ℕ p) b + constant (residue (p *ℕ p) p) · poly (p *ℕ p) h
 
 module _ {p : ℕ} (large : 1 < p) where
-  digit : {a : List ℕ} → Reduced p 33 a → (k c : ℕ) → c < p → residue p (getD a k 0) ≡ residue p c → getD a k 0 ≡ c
-  digit {a} r k c l e = sym (mod-eq-of-lt (r .low k)) ∙ same-remainder p (omega arith) (getD a k 0) c e ∙ mod-eq-of-lt l
-
   digits-monic : {a : List ℕ} {i : ℕ} → Reduced p 33 a → Monic i (poly p a) → Monic i (poly (p *ℕ p) a)
   digits-monic {a} {i} r m = record {
     leading = coef-poly (p *ℕ p) a i
-        ∙ ap (residue (p *ℕ p)) (digit r i 1 large (sym (coef-poly p a i) ∙ m .leading ∙ sym (residue-one p)))
+        ∙ ap (residue (p *ℕ p)) (same-number (r .low i) large (sym (coef-poly p a i) ∙ m .leading ∙ sym (residue-one p)))
         ∙ residue-one (p *ℕ p);
     below = below-modulo (p *ℕ p) r (m .below);
   }

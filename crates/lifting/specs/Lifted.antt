@@ -5,15 +5,14 @@ use mathlib.Core.List.{List}
 use Prim.Native.Nat.{ℕ, _<_, _*_ as _*ℕ_}
 use Rattle.algebra.specs.Ring.{CommRing, linear2}
 use Rattle.algebra.specs.Identities.{con, _⊕_, _⊖_, _⊗_, _≈_, solve}
-use Rattle.algebra.specs.Divisibility.{pow-zero}
 use Rattle.algebra.specs.Residues.{residue, Residues}
-use Rattle.algebra.specs.Polynomials.{PolyRing, _+_, _·_, 𝟏, x, constant}
+use Rattle.algebra.specs.Polynomials.{PolyRing, _+_, _·_, 𝟏, constant}
+use Rattle.algebra.specs.Monomials.{x^, shift-zero}
 use Rattle.algebra.specs.Degree.{Below, Monic, monic-add, below-constant-mul}
 use Rattle.algebra.specs.CoefficientLists.{ℤ[x]/, poly, Reduced}
 use Rattle.factorisation.specs.ExtensionLaws.{bar-add, bar-mul, bar-add-π, π-equal}
 use Rattle.theorems.specs.Reductions.{barred, bar-poly}
 use Rattle.theorems.specs.ListExtension.{extension, π-is}
-use Rattle.algebra.specs.Monomials.{x^}
 use Rattle.modular.specs.Coefficients.{Represents}
 use Rattle.modular.specs.Arrays.{below-modulo}
 use Rattle.lifting.specs.Defect.{Factors, Defect, first-monic, second-monic}
@@ -39,9 +38,7 @@ module _ {p : ℕ} (large : 1 < p) where
   raised-is : (a s A : List ℕ) → Raised a s A → poly (p *ℕ p) A ≡ poly (p *ℕ p) a + extension p large .π · poly (p *ℕ p) s
   raised-is a s A r =
       r .is
-      ∙ ap₂ (λ c d. poly (p *ℕ p) a + c · d)
-      (sym (π-is p large))
-      (ap (λ c. c · poly (p *ℕ p) s) (pow-zero 𝓐 x) ∙ 𝓐 .*-one (poly (p *ℕ p) s))
+      ∙ ap₂ (λ c d. poly (p *ℕ p) a + c · d) (sym (π-is p large)) (shift-zero (poly (p *ℕ p) s))
 
   raised-bar : (a s A : List ℕ) → Raised a s A → poly p A ≡ poly p a
   raised-bar a s A r =
@@ -52,7 +49,7 @@ module _ {p : ℕ} (large : 1 < p) where
 
   raised-monic : (a s A : List ℕ) {i : ℕ} → Raised a s A → Monic i (poly (p *ℕ p) a) → Below i (poly (p *ℕ p) s) → Monic i (poly (p *ℕ p) A)
   raised-monic a s A r m l =
-      rw (r .is, pow-zero 𝓐 x, 𝓐 .*-one (poly (p *ℕ p) s)) (monic-add m (below-constant-mul (residue (p *ℕ p) p) l))
+      rw (r .is, shift-zero (poly (p *ℕ p) s)) (monic-add m (below-constant-mul (residue (p *ℕ p) p) l))
 
   module _ {f a b h s t A B : List ℕ} {i j : ℕ} (F : Factors p f a i b j) (D : Defect p f a i b j h) (C : Correction p h a i b j s t)
       (hA : Raised a s A) (hB : Raised b t B) where

@@ -1,10 +1,10 @@
 -- Loops that store into an array entry by entry: `Replaced d f a k r i` says that r is a with the entries from k up to i replaced by
--- f's values. Proves how such a loop begins and goes on. Assumes nothing.
+-- f's values. Proves how such a loop begins and goes on, and what holds of every entry of r. Assumes nothing.
 use mathlib.Core.Path.{_≡_, refl, _∙_}
 use mathlib.Core.List.{List}
 use Prim.Native.Nat.{ℕ, _+_, _<_, _≤_}
 use native.Mathlib.Nat.{le-refl}
-use native.Mathlib.Decide.{ℕ-discrete}
+use native.Mathlib.Decide.{ℕ-discrete, decLt}
 use native.Mathlib.Omega.{arith}
 use lib.ListN.{length, getD, set, length-set}
 use lib.Seq.{getD-set-same, getD-set-other}
@@ -34,3 +34,14 @@ module _ {A : Type 0} where
       at : (j : ℕ) → k ≤ j → j < i + 1 → Dec (j ≡ i) → getD (set r i v) j d ≡ f j
       at j l u (yes q) = rw q (getD-set-same r i v d (omega (arith, w .len)) ∙ e)
       at j l u (no q) = getD-set-other r i j v d q ∙ w .new j l (omega (arith, q))
+
+  -- what holds of the entries of a below k and from i on, and of the new ones between, holds of every entry of r
+  pub replaced-each : {d : A} {f : ℕ → A} {a : List A} {k : ℕ} {r : List A} {i : ℕ} (P : ℕ → A → Type 0) → Replaced d f a k r i
+      → ((j : ℕ) → j < k → P j (getD a j d)) → ((j : ℕ) → k ≤ j → j < i → P j (f j)) → ((j : ℕ) → i ≤ j → P j (getD a j d))
+      → (j : ℕ) → P j (getD r j d)
+  replaced-each {d} {k = k} {r} {i} P w low new high j = at (decLt j k) (decLt j i)
+    where
+      at : Dec (j < k) → Dec (j < i) → P j (getD r j d)
+      at (yes l) u = rw (w .below j l) (low j l)
+      at (no l) (yes u) = rw (w .new j (omega (arith, l)) u) (new j (omega (arith, l)) u)
+      at (no l) (no u) = rw (w .above j (omega (arith, u))) (high j (omega (arith, u)))

@@ -2,14 +2,12 @@
 -- Proves that the array it leaves represents a + c·x^k·b. Assumes nothing.
 use mathlib.Core.Path.{_≡_, sym, _∙_, ap, ap₂}
 use mathlib.Core.List.{List}
-use mathlib.Core.Logic.{⊎-elim}
 use Prim.Native.Nat.{ℕ, _≤_, _<_, _-_, _%_, _+_ as _+ℕ_, _*_ as _*ℕ_}
 use native.Mathlib.Nat.{mod-lt}
 use native.Mathlib.Omega.{arith}
 use lib.ListN.{getD}
-use Rattle.loops.specs.Entries.{Replaced}
+use Rattle.loops.specs.Entries.{Replaced, replaced-each}
 use Rattle.algebra.specs.Ring.{add-zero, mul-zero}
-use Rattle.algebra.specs.Numbers.{lt-or-le}
 use Rattle.algebra.specs.Residues.{residue, Residues, residue-add, residue-mul, residue-mod}
 use Rattle.algebra.specs.Polynomials.{_+_, _·_, constant, poly-ext, coef-add, coef-constant-mul}
 use Rattle.algebra.specs.Degree.{Below}
@@ -20,14 +18,6 @@ use Rattle.modular.specs.Coefficients.{Represents}
 -- the entry j of a + c·x^k·b, from k on
 unfoldable pub entry : ℕ → List ℕ → ℕ → List ℕ → ℕ → ℕ → ℕ
 entry n a c b k j = (getD a j 0 +ℕ c *ℕ getD b (j - k) 0) % n
-
--- what holds of a's entries outside of k .. e - 1 and of the stored ones holds of every entry
-each : {f : ℕ → ℕ} {a r : List ℕ} {k e : ℕ} (P : ℕ → ℕ → Type 0) → Replaced 0 f a k r e
-    → ((j : ℕ) → j < k → P j (getD a j 0)) → ((j : ℕ) → k ≤ j → j < e → P j (f j)) → ((j : ℕ) → e ≤ j → P j (getD a j 0))
-    → (j : ℕ) → P j (getD r j 0)
-each {e = e} P w low new high j =
-    ⊎-elim (λ l. rw (w .below j l) (low j l))
-    (λ l. ⊎-elim (λ u. rw (w .new j l u) (new j l u)) (λ u. rw (w .above j u) (high j u)) (lt-or-le j e)) (lt-or-le j _)
 
 module _ (n : ℕ) (a : List ℕ) (c : ℕ) (b : List ℕ) (k : ℕ) where
   -- a + c·x^k·b
@@ -62,11 +52,11 @@ module _ (n : ℕ) (a : List ℕ) (c : ℕ) (b : List ℕ) (k : ℕ) where
       record {
         reduced = record {
           len = w .len ∙ ha .len;
-          low = each (λ j v. v < n) w (λ j l. ha .low j) (λ j l u. mod-lt _ pos) (λ j l. ha .low j);
+          low = replaced-each (λ j v. v < n) w (λ j l. ha .low j) (λ j l u. mod-lt _ pos) (λ j l. ha .low j);
         };
         is = poly-ext (λ j.
             coef-poly n r j
-            ∙ each (λ j v. residue n v ≡ whole .coef j) w (λ j l. kept j (coef-shift-below k (poly n b) j l))
+            ∙ replaced-each (λ j v. residue n v ≡ whole .coef j) w (λ j l. kept j (coef-shift-below k (poly n b) j l))
             (λ j l u. stored j pos l)
             (λ j l. kept j (coef-shift k (poly n b) j (omega (arith, w .reach)) ∙ hb .high (j - k) (omega arith))) j);
       }

@@ -4,8 +4,8 @@
 use mathlib.Core.Path.{_≡_, sym, _∙_, ap, subst}
 use mathlib.Core.List.{List}
 use mathlib.Core.Logic.{_≢_, ⊎-elim}
-use Prim.Native.Nat.{ℕ, _≤_, _-_, _*_, zero-le}
-use native.Mathlib.Nat.{mod-eq-of-lt, zero-mod, pos-of-ne-zero, mul-le-mul-left}
+use Prim.Native.Nat.{ℕ, _≤_, _<_, _-_, _*_, zero-le}
+use native.Mathlib.Nat.{mod-eq-of-lt, pos-of-ne-zero, mul-le-mul-left}
 use native.Mathlib.Omega.{arith}
 use lib.ListN.{length, getD, take}
 use lib.Seq.{getD-take, length-take-le, ext-getD}
@@ -17,12 +17,13 @@ use Rattle.algebra.specs.CoefficientLists.{poly, Reduced, coef-poly}
 use Rattle.modular.specs.Coefficients.{Size, below-size}
 
 module _ {n : ℕ} where
+  pub same-number : {a b : ℕ} → a < n → b < n → residue n a ≡ residue n b → a ≡ b
+  same-number {a} {b} l m e = sym (mod-eq-of-lt l) ∙ same-remainder n (omega arith) a b e ∙ mod-eq-of-lt m
+
   -- the numbers are those of the polynomial's coefficients
   pub same-entries : {k l : ℕ} {f g : List ℕ} → Reduced n k f → Reduced n l g → poly n f ≡ poly n g → (j : ℕ) → getD f j 0 ≡ getD g j 0
   same-entries {f = f} {g} hf hg e j =
-      sym (mod-eq-of-lt (hf .low j))
-      ∙ same-remainder n (omega (arith, hf .low 0)) (getD f j 0) (getD g j 0) (sym (coef-poly n f j) ∙ ap (λ a. a .coef j) e ∙ coef-poly n g j)
-      ∙ mod-eq-of-lt (hg .low j)
+      same-number (hf .low j) (hg .low j) (sym (coef-poly n f j) ∙ ap (λ a. a .coef j) e ∙ coef-poly n g j)
 
   -- the first k entries of an array that holds the polynomial of a list of k
   pub beginning : {k l : ℕ} {a f : List ℕ} → Reduced n l a → Reduced n k f → k ≤ l → poly n a ≡ poly n f → take k a ≡ f
@@ -35,9 +36,7 @@ module _ {n : ℕ} where
   -- no term from k on: the entries there are 0
   pub zero-above : {k l : ℕ} {a : List ℕ} → Reduced n l a → Below k (poly n a) → (j : ℕ) → k ≤ j → getD a j 0 ≡ 0
   zero-above {a = a} ha h j l =
-      sym (mod-eq-of-lt (ha .low j))
-      ∙ same-remainder n (omega (arith, ha .low 0)) (getD a j 0) 0 (sym (coef-poly n a j) ∙ h .high j l ∙ sym (residue-zero n))
-      ∙ zero-mod n
+      same-number (ha .low j) (omega (arith, ha .low j)) (sym (coef-poly n a j) ∙ h .high j l ∙ sym (residue-zero n))
 
   -- and its size is k at most
   pub size-small : {k l : ℕ} {a : List ℕ} → Reduced n l a → Below k (poly n a) → {s : ℕ} → Size a s → s ≤ k

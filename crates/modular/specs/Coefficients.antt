@@ -1,13 +1,14 @@
 -- Arrays of 33 coefficients as polynomials over ℤ/n: `Represents n r p`, the array r holds the polynomial p; `Size a r`.
--- Proves what the arrays of 0 and 1 represent, and that n − c stands for −c. Assumes nothing.
-use mathlib.Core.Path.{_≡_, _∙_, ap, ap₂}
+-- Proves what the arrays of 0 and 1 represent, that n − c stands for −c, and what the terms from i on are. Assumes nothing.
+use mathlib.Core.Path.{_≡_, sym, _∙_, ap, ap₂}
 use mathlib.Core.List.{List, _∷_}
-use Prim.Native.Nat.{ℕ, zero, suc, _≤_, _<_, _-_}
+use Prim.Native.Nat.{ℕ, zero, suc, _≤_, _<_, _-_, _+_ as _+ℕ_}
 use native.Mathlib.Omega.{arith}
-use lib.ListN.{length, getD, replicate, length-replicate}
+use lib.ListN.{length, getD, drop, replicate, length-replicate}
+use lib.Seq.{drop-cons, getD-drop}
 use Rattle.algebra.specs.Identities.{con, _⊕_, _⊗_, _≈_, solve}
 use Rattle.algebra.specs.Residues.{residue, Residues, residue-zero, residue-one, residue-neg}
-use Rattle.algebra.specs.Polynomials.{PolyRing, _+_, _·_, -_, 𝟎, 𝟏, x, constant, constant-one, constant-neg}
+use Rattle.algebra.specs.Polynomials.{PolyRing, _+_, _·_, -_, 𝟎, 𝟏, x, constant, constant-one, constant-neg, poly-ext, coef-zero}
 use Rattle.algebra.specs.Degree.{Below, below-up, monic-one}
 use Rattle.algebra.specs.CoefficientLists.{ℤ[x]/, poly, Reduced, coef-poly, poly-cons, below-poly}
 use Rattle.algebra.specs.ListShapes.{getD-zeros}
@@ -59,3 +60,13 @@ module _ (n : ℕ) where
 
   pub constant-residue-neg : 0 < n → {c : ℕ} → c ≤ n → constant {𝓡 = Residues n} (residue n (n - c)) ≡ - constant (residue n c)
   constant-residue-neg pos {c} l = ap constant (residue-neg n pos c l) ∙ constant-neg (residue n c)
+
+  -- ---- the terms from i on
+
+  pub poly-drop : (a : List ℕ) (i : ℕ) → i < length a → poly n (drop i a) ≡ constant (residue n (getD a i 0)) + x · poly n (drop (suc i) a)
+  poly-drop a i l = ap (poly n) (drop-cons a i 0 l) ∙ poly-cons n (getD a i 0) (drop (suc i) a)
+
+  pub poly-drop-none : (a : List ℕ) (i : ℕ) → Below i (poly n a) → poly n (drop i a) ≡ 𝟎
+  poly-drop-none a i h = poly-ext (λ k.
+      coef-poly n (drop i a) k ∙ ap (residue n) (getD-drop i a k 0) ∙ sym (coef-poly n a (i +ℕ k)) ∙ h .high (i +ℕ k) (omega arith)
+      ∙ sym (coef-zero (Residues n) k))

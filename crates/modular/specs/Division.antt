@@ -1,20 +1,21 @@
 -- Division of arrays by a monic array: `DividedBy`, what holds of quotient and remainder; the loop of `divide`, which takes the
 -- highest term away turn by turn.
--- Proves that the loop begins, goes on and ends as it should. Assumes nothing.
-use mathlib.Core.Path.{_≡_, _∙_, ap, ap₂}
+-- Proves that the loop begins, goes on and ends as it should, and what a division that comes out even gives. Assumes nothing.
+use mathlib.Core.Path.{_≡_, sym, _∙_, ap, ap₂}
 use mathlib.Core.List.{List, _∷_}
 use Prim.Native.Nat.{ℕ, suc, _≤_, _<_, _-_, _+_ as _+ℕ_}
 use native.Mathlib.Omega.{arith}
 use lib.ListN.{getD, replicate}
-use Rattle.algebra.specs.Ring.{neg-mul}
+use Rattle.algebra.specs.Ring.{add-zero}
 use Rattle.algebra.specs.Identities.{con, _⊕_, _⊖_, _⊗_, _≈_, solve}
 use Rattle.algebra.specs.Residues.{residue, Residues}
-use Rattle.algebra.specs.Polynomials.{PolyRing, _+_, _·_, -_, 𝟏, constant}
-use Rattle.algebra.specs.Degree.{Below, Monic, below-up, monic-mul, monic-pow-x}
-use Rattle.algebra.specs.Division.{below-top}
+use Rattle.algebra.specs.Polynomials.{PolyRing, _+_, _·_, -_, 𝟎, 𝟏, constant}
+use Rattle.algebra.specs.Degree.{Below, Monic, below-𝟎, below-up, monic-mul, monic-pow-x}
+use Rattle.algebra.specs.Division.{below-top, divided-unique}
 use Rattle.algebra.specs.CoefficientLists.{ℤ[x]/, poly, Reduced, coef-poly}
 use Rattle.algebra.specs.Monomials.{x^}
-use Rattle.modular.specs.Coefficients.{Represents, zeros, poly-unit, constant-residue-neg}
+use Rattle.modular.specs.Coefficients.{Represents, zeros, poly-unit}
+use Rattle.modular.specs.Multiples.{negative-multiple}
 
 -- q and r are the arrays of the quotient and of the remainder of a by b, which is of degree d
 pub record DividedBy (n : ℕ) (a b : List ℕ) (d : ℕ) (q r : List ℕ) : Type 0 where
@@ -75,14 +76,16 @@ module _ (n : ℕ) (a b : List ℕ) where
         small = p .remainder .low j
 
         left-is : poly n u ≡ poly n w + - (top · multiple)
-        left-is =
-            hu .is
-            ∙ ap (λ c. poly n w + c)
-            (ap (λ c. c · multiple) (constant-residue-neg n (omega (arith, small)) (omega (arith, small)))
-            ∙ neg-mul (PolyRing (Residues n)) top multiple)
+        left-is = hu .is ∙ ap (λ c. poly n w + c) (negative-multiple n (omega (arith, small)) (omega (arith, small)) multiple)
 
         fewer : Below (k +ℕ d) (poly n w + - (constant (residue n (getD w (k +ℕ d) 0)) · multiple))
         fewer = rw (← coef-poly n w (k +ℕ d)) (below-top (monic-mul (monic-pow-x k) monic) (poly n w) (below-up (omega arith) (p .small)))
 
   pub division-done : {d i : ℕ} {q w : List ℕ} → PartialDivision n a b i q w → i ≤ d → DividedBy n a b d q w
   division-done p l = record { quotient = p .quotient; remainder = p .remainder; law = p .law; small = below-up l (p .small) }
+
+  -- a is k·b
+  pub divided-exactly : {d : ℕ} {q r : List ℕ} → Monic d (poly n b) → DividedBy n a b d q r → (k : ℤ[x]/ n) → k · poly n b ≡ poly n a
+      → (poly n q ≡ k) × (poly n r ≡ 𝟎)
+  divided-exactly {d} {q} {r} m h k e =
+      divided-unique m (poly n q) (poly n r) k 𝟎 (h .small) (below-𝟎 d) (h .law ∙ sym e ∙ sym (add-zero (PolyRing (Residues n)) (k · poly n b)))

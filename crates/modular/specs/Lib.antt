@@ -1,9 +1,9 @@
 pub mod Widths
 pub mod Reciprocals
 pub mod Coefficients
+pub mod Multiples
 pub mod Arrays
 pub mod AddMultiple
-pub mod Sum
 pub mod Product
 pub mod Division
 pub mod Over

@@ -4,17 +4,14 @@ use mathlib.Core.Path.{_≡_, sym, _∙_, ap, ap₂}
 use mathlib.Core.List.{List}
 use Prim.Native.Nat.{ℕ, suc, _<_, _+_ as _+ℕ_}
 use native.Mathlib.Numerals.{add-one}
-use native.Mathlib.Omega.{arith}
 use lib.ListN.{length, getD, drop, replicate}
-use lib.Seq.{drop-cons, getD-drop}
 use Rattle.algebra.specs.Identities.{con, _⊕_, _⊗_, _≈_, solve}
-use Rattle.algebra.specs.Divisibility.{pow-suc}
 use Rattle.algebra.specs.Residues.{residue, Residues}
-use Rattle.algebra.specs.Polynomials.{PolyRing, _+_, _·_, 𝟎, x, constant, poly-ext, coef-zero}
+use Rattle.algebra.specs.Polynomials.{PolyRing, _+_, _·_, x, constant}
 use Rattle.algebra.specs.Degree.{Below}
-use Rattle.algebra.specs.CoefficientLists.{ℤ[x]/, poly, Reduced, coef-poly, poly-cons}
-use Rattle.algebra.specs.Monomials.{x^, shift-zero}
-use Rattle.modular.specs.Coefficients.{Represents, zeros}
+use Rattle.algebra.specs.CoefficientLists.{ℤ[x]/, poly, Reduced}
+use Rattle.algebra.specs.Monomials.{x^, shift-zero, shift-suc}
+use Rattle.modular.specs.Coefficients.{Represents, zeros, poly-drop, poly-drop-none}
 
 -- after i turns
 pub record PartialProduct (n : ℕ) (a b : List ℕ) (i : ℕ) (r : List ℕ) : Type 0 where
@@ -31,32 +28,21 @@ module _ (n : ℕ) (a b : List ℕ) where
 
   pub product-more : {i : ℕ} {r v : List ℕ} → PartialProduct n a b i r → i < length a
       → Represents n v (poly n r + constant (residue n (getD a i 0)) · (x^ i · poly n b)) → PartialProduct n a b (i +ℕ 1) v
-  product-more {i} {r} {v} w l h = rw add-one (record { reduced = h .reduced; law = ap₂ _+_ (h .is) next ∙ regroup ∙ w .law })
+  product-more {i} {r} {v} w l h = rw add-one (record { reduced = h .reduced; law = ap₂ _+_ (h .is) (shift-suc i (rest · poly n b)) ∙ regroup ∙ w .law })
     where
       rest : ℤ[x]/ n
       rest = poly n (drop (suc i) a)
 
-      next : x^ (suc i) · (rest · poly n b) ≡ x · x^ i · (rest · poly n b)
-      next = ap (λ p. p · (rest · poly n b)) (pow-suc (PolyRing (Residues n)) x i)
-
-      split : poly n (drop i a) ≡ constant (residue n (getD a i 0)) + x · rest
-      split = ap (poly n) (drop-cons a i 0 l) ∙ poly-cons n (getD a i 0) (drop (suc i) a)
-
-      regroup : poly n r + constant (residue n (getD a i 0)) · (x^ i · poly n b) + x · x^ i · (rest · poly n b)
+      regroup : poly n r + constant (residue n (getD a i 0)) · (x^ i · poly n b) + x · (x^ i · (rest · poly n b))
           ≡ poly n r + x^ i · (poly n (drop i a) · poly n b)
       regroup =
-          solve (PolyRing (Residues n)) 6 (λ r c y b x t. r ⊕ c ⊗ (y ⊗ b) ⊕ x ⊗ y ⊗ (t ⊗ b) ≈ r ⊕ y ⊗ ((c ⊕ x ⊗ t) ⊗ b)) tt
+          solve (PolyRing (Residues n)) 6 (λ r c y b x t. r ⊕ c ⊗ (y ⊗ b) ⊕ x ⊗ (y ⊗ (t ⊗ b)) ≈ r ⊕ y ⊗ ((c ⊕ x ⊗ t) ⊗ b)) tt
           (poly n r) (constant (residue n (getD a i 0))) (x^ i) (poly n b) x rest
-          ∙ ap (λ p. poly n r + x^ i · (p · poly n b)) (sym split)
+          ∙ ap (λ p. poly n r + x^ i · (p · poly n b)) (sym (poly-drop n a i l))
 
   pub product-done : {i : ℕ} {r : List ℕ} → PartialProduct n a b i r → Below i (poly n a) → Represents n r (poly n a · poly n b)
   product-done {i} {r} w h = record {
     reduced = w .reduced;
     is = solve (PolyRing (Residues n)) 3 (λ r y b. r ≈ r ⊕ y ⊗ (con 0 ⊗ b)) tt (poly n r) (x^ i) (poly n b)
-        ∙ ap (λ p. poly n r + x^ i · (p · poly n b)) (sym nothing) ∙ w .law;
+        ∙ ap (λ p. poly n r + x^ i · (p · poly n b)) (sym (poly-drop-none n a i h)) ∙ w .law;
   }
-    where
-      nothing : poly n (drop i a) ≡ 𝟎
-      nothing = poly-ext (λ k.
-          coef-poly n (drop i a) k ∙ ap (residue n) (getD-drop i a k 0) ∙ sym (coef-poly n a (i +ℕ k)) ∙ h .high (i +ℕ k) (omega arith)
-          ∙ sym (coef-zero (Residues n) k))

@@ -27,14 +27,6 @@ pub fn reduce(n: u16, s: u64) -> u16
     (s % (n as u64)) as u16
 }
 
-// y + c·z modulo n.
-pub fn add_product(y: u16, c: u16, z: u16, n: u16) -> u16
-    requires { ⌜ 0 < n ⌝ }
-    ensures { λ r. ⌜ r ≡ (y +ℕ c *ℕ z) % n ⌝ }
-{
-    reduce(n, y as u64 + c as u64 * z as u64)
-}
-
 // 2^32 / n, with which `reduce_by` divides.
 pub fn reciprocal(n: u16) -> u64
     requires { ⌜ 0 < n ⌝ }
@@ -58,7 +50,7 @@ pub fn reduce_by(n: u16, w: u64, s: u32) -> u16
 }
 
 // y + c·z modulo n, where w is the reciprocal of n.
-pub fn add_product_by(y: u16, c: u16, z: u16, n: u16, w: u64) -> u16
+pub fn add_product(y: u16, c: u16, z: u16, n: u16, w: u64) -> u16
     requires { ⌜ (0 < n) × (w ≡ 4294967296 / n) ⌝ }
     ensures { λ r. ⌜ r ≡ (y +ℕ c *ℕ z) % n ⌝ }
 {
@@ -72,7 +64,7 @@ pub fn inverse(c: u16, p: u16) -> u16
 {
     let mut y: u16 = 1;
     while y < p {
-        if add_product(0, c, y, p) == 1 {
+        if reduce(p, c as u64 * y as u64) == 1 {
             return y;
         }
         y += 1;
@@ -90,10 +82,19 @@ pub fn add_multiple(a: [u16; 33], c: u16, b: [u16; 33], k: usize, m: usize, n: u
     let mut r = a;
     let mut i = k;
     while i < end {
-        r[i] = add_product_by(a[i], c, b[i - k], n, w);
+        r[i] = add_product(a[i], c, b[i - k], n, w);
         i += 1;
     }
     r
+}
+
+// c·a, where a has s terms.
+pub fn multiple(c: u16, a: [u16; 33], s: usize, n: u16) -> [u16; 33]
+    requires { ⌜ (0 < n) × (s ≤ 33) × Below s (poly n a) ⌝ }
+    ensures { λ r. ⌜ Represents n r (constant (residue n c) · poly n a) ⌝ }
+{
+    let zero = [0u16; 33];
+    add_multiple(zero, c, a, 0, s, n)
 }
 
 // a + b.

@@ -2,20 +2,18 @@
 -- Proves that the loop begins so, goes on so, and ends with the remainder of a·b. Assumes nothing.
 use mathlib.Core.Path.{_≡_, refl, sym, _∙_, ap, subst}
 use mathlib.Core.List.{List}
-use Prim.Native.Nat.{ℕ, suc, _<_, _≤_, _+_ as _+ℕ_, zero-le}
+use Prim.Native.Nat.{ℕ, suc, _<_, _≤_, zero-le}
 use native.Mathlib.Nat.{le-antisymm}
-use native.Mathlib.Omega.{arith}
 use lib.ListN.{length, getD, drop, replicate}
-use lib.Seq.{drop-cons, getD-drop}
 use Rattle.algebra.specs.Ring.{zero-mul}
 use Rattle.algebra.specs.Identities.{_⊕_, _⊗_, _≈_, solve}
-use Rattle.algebra.specs.Residues.{residue, Residues, residue-zero}
-use Rattle.algebra.specs.Polynomials.{PolyRing, _+_, _·_, 𝟎, x, constant, poly-ext, coef-zero}
+use Rattle.algebra.specs.Residues.{residue, Residues}
+use Rattle.algebra.specs.Polynomials.{PolyRing, _+_, _·_, x, constant}
 use Rattle.algebra.specs.Degree.{Below, below-add, below-constant-mul, below-𝟎}
-use Rattle.algebra.specs.CoefficientLists.{ℤ[x]/, poly, coef-poly, poly-cons}
+use Rattle.algebra.specs.CoefficientLists.{ℤ[x]/, poly}
 use Rattle.algebra.specs.Congruence.{Congruent, congruent-equal, congruent-trans, congruent-add, congruent-mul}
 use Rattle.algebra.specs.Monomials.{x^, shift-zero}
-use Rattle.modular.specs.Coefficients.{Represents, Size, zeros}
+use Rattle.modular.specs.Coefficients.{Represents, Size, below-size, zeros, poly-drop, poly-drop-none}
 use Rattle.quotients.specs.Remainder.{Remainder}
 
 module _ (n : ℕ) (a b q : List ℕ) {d : ℕ} where
@@ -25,12 +23,8 @@ module _ (n : ℕ) (a b q : List ℕ) {d : ℕ} where
     reduced = (zeros n pos) .reduced;
     small = rw ((zeros n pos) .is) (below-𝟎 d);
     congruent = congruent-equal (PolyRing (Residues n))
-        ((zeros n pos) .is ∙ sym (ap (λ p. p · poly n b) nothing ∙ zero-mul (PolyRing (Residues n)) (poly n b)));
+        ((zeros n pos) .is ∙ sym (ap (λ p. p · poly n b) (poly-drop-none n a s (below-size n h)) ∙ zero-mul (PolyRing (Residues n)) (poly n b)));
   }
-    where
-      nothing : poly n (drop s a) ≡ 𝟎
-      nothing = poly-ext (λ k.
-          coef-poly n (drop s a) k ∙ ap (residue n) (getD-drop s a k 0 ∙ h .above (s +ℕ k) (omega arith)) ∙ residue-zero n ∙ sym (coef-zero (Residues n) k))
 
   -- s is x·r and v is s + c·b, where c is the coefficient j of a
   module _ (hb : Below d (poly n b)) (r s v : List ℕ) (i j : ℕ) (next : i ≡ suc j) (within : j < length a) where
@@ -41,7 +35,7 @@ module _ (n : ℕ) (a b q : List ℕ) {d : ℕ} where
     rest = poly n (drop i a)
 
     split : poly n (drop j a) ≡ top + x · rest
-    split = ap (poly n) (drop-cons a j 0 within) ∙ poly-cons n (getD a j 0) (drop (suc j) a) ∙ ap (λ k. top + x · poly n (drop k a)) (sym next)
+    split = poly-drop n a j within ∙ ap (λ k. top + x · poly n (drop k a)) (sym next)
 
     regroup : x · (rest · poly n b) + top · poly n b ≡ poly n (drop j a) · poly n b
     regroup =

@@ -3,7 +3,7 @@
 use mathlib.Core.List.{List}
 use Prim.Native.Nat.{ℕ}
 use Rattle.algebra.specs.Residues.{Residues}
-use Rattle.algebra.specs.Polynomials.{PolyRing, x}
+use Rattle.algebra.specs.Polynomials.{PolyRing}
 use Rattle.algebra.specs.Degree.{Below}
 use Rattle.algebra.specs.CoefficientLists.{ℤ[x]/, poly, Reduced}
 use Rattle.algebra.specs.Congruence.{Congruent, congruent-sym, congruent-trans, congruent-remainder}

@@ -1,18 +1,14 @@
 -- Multiples by x modulo a monic polynomial: `TimesX a d r`, the array r holds x·a. The loop of `times_power_of_x`.
 -- Proves that coefficients moved up one place are x·a, that one turn of a division leaves its remainder, and how the loop begins, goes on and ends.
 -- Assumes nothing.
-use mathlib.Core.Path.{_≡_, refl, sym, _∙_, ap, ap₂, subst}
+use mathlib.Core.Path.{_≡_, refl, sym, _∙_, ap, subst}
 use mathlib.Core.List.{List}
-use mathlib.Core.Logic.{⊎-elim}
 use Prim.Native.Nat.{ℕ, zero, suc, _<_, _≤_, _-_, _+_ as _+ℕ_}
 use native.Mathlib.Nat.{le-antisymm}
-use native.Mathlib.Numerals.{add-one}
+use native.Mathlib.Numerals.{add-one, sub-one}
 use native.Mathlib.Omega.{arith}
 use lib.ListN.{getD, replicate, length-replicate}
-use Rattle.loops.specs.Entries.{Replaced}
-use Rattle.algebra.specs.Numbers.{lt-or-le}
-use Rattle.algebra.specs.Ring.{neg-mul}
-use Rattle.algebra.specs.Divisibility.{pow-suc}
+use Rattle.loops.specs.Entries.{Replaced, replaced-each}
 use Rattle.algebra.specs.Identities.{_⊖_, _⊗_, ⊝_, _≈_, solve}
 use Rattle.algebra.specs.Residues.{residue, Residues, residue-zero}
 use Rattle.algebra.specs.Polynomials.{PolyRing, _+_, _·_, -_, x, constant, poly-ext, coef-x-mul-zero, coef-x-mul-suc}
@@ -21,8 +17,9 @@ use Rattle.algebra.specs.Division.{below-top}
 use Rattle.algebra.specs.CoefficientLists.{ℤ[x]/, poly, Reduced, coef-poly}
 use Rattle.algebra.specs.ListShapes.{getD-zeros}
 use Rattle.algebra.specs.Congruence.{Congruent, congruent-equal, congruent-trans, congruent-mul}
-use Rattle.algebra.specs.Monomials.{x^, shift-zero}
-use Rattle.modular.specs.Coefficients.{Represents, constant-residue-neg}
+use Rattle.algebra.specs.Monomials.{x^, shift-zero, shift-suc}
+use Rattle.modular.specs.Coefficients.{Represents}
+use Rattle.modular.specs.Multiples.{multiple-taken-off}
 use Rattle.quotients.specs.Remainder.{Remainder, remainder-congruent}
 
 -- modulo every n
@@ -31,32 +28,31 @@ TimesX a d r = (n : ℕ) → Reduced n 33 a → Below d (poly n a) → Represent
 
 -- the entries from 1 to d are those of a one place lower
 pub moved-up : {a r : List ℕ} {d e : ℕ} → d < 33 → e ≡ d +ℕ 1 → Replaced 0 (λ j. getD a (j - 1) 0) (replicate 33 0) 1 r e → TimesX a d r
-moved-up {a} {r} {d} {e} l q w n ha small = record { reduced = record { len = w .len ∙ length-replicate {A = ℕ} 33 0; low = low }; is = poly-ext coefs }
+moved-up {a} {r} {d} {e} l q w n ha small = record {
+  reduced = record {
+    len = w .len ∙ length-replicate {A = ℕ} 33 0;
+    low = replaced-each (λ j v. v < n) w (λ j l. nothing j) (λ j l u. ha .low (j - 1)) (λ j l. nothing j);
+  };
+  is = poly-ext (λ j. coef-poly n r j ∙ replaced-each (λ j v. residue n v ≡ (x · poly n a) .coef j) w first next last j);
+}
   where
-    positive : 0 < n
-    positive = omega (arith, ha .low 0)
+    nothing : (j : ℕ) → getD (replicate 33 0) j 0 < n
+    nothing j = rw (getD-zeros 33 j) (omega (arith, ha .low 0))
 
-    first : getD r 0 0 ≡ 0
-    first = w .below 0 (omega arith) ∙ getD-zeros 33 0
+    none : (j : ℕ) → residue n (getD (replicate 33 0) j 0) ≡ (Residues n) .𝟘
+    none j = ap (residue n) (getD-zeros 33 j) ∙ residue-zero n
 
-    next : (k : ℕ) → suc k < e → getD r (suc k) 0 ≡ getD a k 0
-    next k u = w .new (suc k) (omega arith) u ∙ ap (λ j. getD a j 0) (let e : suc k - 1 ≡ k = omega arith in e)
+    first : (j : ℕ) → j < 1 → residue n (getD (replicate 33 0) j 0) ≡ (x · poly n a) .coef j
+    first zero l = none 0 ∙ sym (coef-x-mul-zero (poly n a))
+    first (suc j) l = absurd (omega arith)
 
-    last : (k : ℕ) → e ≤ k → getD r k 0 ≡ 0
-    last k u = w .above k u ∙ getD-zeros 33 k
+    next : (j : ℕ) → 1 ≤ j → j < e → residue n (getD a (j - 1) 0) ≡ (x · poly n a) .coef j
+    next zero l u = absurd (omega arith)
+    next (suc j) l u = rw sub-one (sym (coef-x-mul-suc (poly n a) j ∙ coef-poly n a j))
 
-    low : (k : ℕ) → getD r k 0 < n
-    low zero = subst (λ v. v < n) (sym first) positive
-    low (suc k) =
-        ⊎-elim (λ u. subst (λ v. v < n) (sym (next k u)) (ha .low k)) (λ u. subst (λ v. v < n) (sym (last (suc k) u)) positive) (lt-or-le (suc k) e)
-
-    coefs : (k : ℕ) → (poly n r) .coef k ≡ (x · poly n a) .coef k
-    coefs zero = coef-poly n r 0 ∙ ap (residue n) first ∙ residue-zero n ∙ sym (coef-x-mul-zero (poly n a))
-    coefs (suc k) =
-        coef-poly n r (suc k)
-        ∙ ⊎-elim (λ u. ap (residue n) (next k u) ∙ sym (coef-poly n a k))
-        (λ u. ap (residue n) (last (suc k) u) ∙ residue-zero n ∙ sym (small .high k (omega arith))) (lt-or-le (suc k) e)
-        ∙ sym (coef-x-mul-suc (poly n a) k)
+    last : (j : ℕ) → e ≤ j → residue n (getD (replicate 33 0) j 0) ≡ (x · poly n a) .coef j
+    last zero l = absurd (omega arith)
+    last (suc j) l = none (suc j) ∙ sym (coef-x-mul-suc (poly n a) j ∙ small .high j (omega arith))
 
 module _ {n : ℕ} {a t : List ℕ} {d : ℕ} (ha : Reduced n 33 a) (small : Below d (poly n a)) (T : TimesX a d t) where
   is : Represents n t (x · poly n a)
@@ -90,10 +86,8 @@ module _ {n : ℕ} {a t : List ℕ} {d : ℕ} (ha : Reduced n 33 a) (small : Bel
 
       less : poly n r ≡ poly n t + - (constant (poly n t .coef d) · poly n q)
       less =
-          h .is
-          ∙ ap (λ b. poly n t + b)
-          (ap₂ _·_ (constant-residue-neg n (omega (arith, low)) (omega (arith, low)) ∙ ap (λ c. - constant c) (sym (coef-poly n t d))) (shift-zero (poly n q))
-          ∙ neg-mul (PolyRing (Residues n)) (constant (poly n t .coef d)) (poly n q))
+          multiple-taken-off n (omega (arith, low)) (omega (arith, low)) (poly n t) (poly n q) h
+          ∙ ap (λ c. poly n t + - (constant c · poly n q)) (sym (coef-poly n t d))
 
       taken-off : (c : ℤ[x]/ n) → Congruent (PolyRing (Residues n)) (poly n q) (poly n t + - (c · poly n q)) (poly n t)
       taken-off c = (- c, solve (PolyRing (Residues n)) 3 (λ t c q. ⊝ c ⊗ q ≈ t ⊖ c ⊗ q ⊖ t) tt (poly n t) c (poly n q))
@@ -107,7 +101,7 @@ module _ {n : ℕ} {q : List ℕ} {d : ℕ} (a : List ℕ) where
   pub shifts-more : (i : ℕ) {r v : List ℕ} → Remainder n q d r (x^ i · poly n a) → Remainder n q d v (x · poly n r)
       → Remainder n q d v (x^ (i +ℕ 1) · poly n a)
   shifts-more i {r} hr hv =
-      rw (add-one, pow-suc (PolyRing (Residues n)) x i, solve (PolyRing (Residues n)) 3 (λ x y a. x ⊗ y ⊗ a ≈ x ⊗ (y ⊗ a)) tt x (x^ i) (poly n a))
+      rw (add-one, shift-suc i (poly n a))
       (remainder-congruent n hv (congruent-mul (PolyRing (Residues n)) (congruent-equal (PolyRing (Residues n)) refl) (hr .congruent)))
 
   pub shifts-done : {i k : ℕ} {r : List ℕ} → i ≤ k → k ≤ i → Remainder n q d r (x^ i · poly n a) → Remainder n q d r (x^ k · poly n a)

@@ -10,16 +10,16 @@ use native.Mathlib.Omega.{arith}
 use lib.ListN.{length, set, replicate, length-set, length-replicate}
 use lib.Seq.{getD-set-same, getD-set-other}
 use Rattle.algebra.specs.Ring.{mul-one}
-use Rattle.algebra.specs.Identities.{con, _⊗_, ⊝_, _≈_, solve}
 use Rattle.algebra.specs.Residues.{residue, Residues}
 use Rattle.algebra.specs.Polynomials.{PolyRing, _+_, _·_, -_, constant}
 use Rattle.algebra.specs.Monomials.{x^}
 use Rattle.algebra.specs.Degree.{below-up, below-add, below-neg, monic-pow-x}
-use Rattle.algebra.specs.CoefficientLists.{ℤ[x]/, poly}
+use Rattle.algebra.specs.CoefficientLists.{poly}
 use Rattle.algebra.specs.Congruence.{congruent-equal, congruent-add}
 use Rattle.frobenius.specs.LinearMaps.{Remainders}
 use Rattle.frobenius.specs.FrobeniusPowers.{_^_, differenceImages}
-use Rattle.modular.specs.Coefficients.{Represents, poly-unit, constant-residue-one, constant-residue-neg}
+use Rattle.modular.specs.Coefficients.{Represents, poly-unit}
+use Rattle.modular.specs.Multiples.{minus-one-multiple}
 use Rattle.quotients.specs.Remainder.{Remainder}
 use Rattle.dependency.specs.declared.Image.{Image}
 use Rattle.dependency.specs.Dependency.{coefsOf, imageOf, Images}
@@ -42,16 +42,12 @@ module _ {p : ℕ} {q : List ℕ} {d : ℕ} where
     congruent = rw is (congruent-add (PolyRing (Residues p)) (hw .congruent) (congruent-equal (PolyRing (Residues p)) refl));
   }
     where
-      negated : (a : ℤ[x]/ p) → constant (residue p (p - 1)) · a ≡ - a
-      negated a =
-          ap (λ b. b · a) (constant-residue-neg p pos pos ∙ ap (λ b. - b) (constant-residue-one p))
-          ∙ solve (PolyRing (Residues p)) 1 (λ a. ⊝ con 1 ⊗ a ≈ ⊝ a) tt a
-
       is : poly p m ≡ poly p w + - x^ i
       is =
           hm .is
           ∙ ap (λ a. poly p w + a)
-          (negated (x^ i · poly p (1 ∷ replicate 32 0)) ∙ ap (λ a. - a) (ap (λ a. x^ i · a) (poly-unit p 32) ∙ mul-one (PolyRing (Residues p)) (x^ i)))
+          (minus-one-multiple p pos (x^ i · poly p (1 ∷ replicate 32 0))
+          ∙ ap (λ a. - a) (ap (λ a. x^ i · a) (poly-unit p 32) ∙ mul-one (PolyRing (Residues p)) (x^ i)))
 
   pub images-more : {i : ℕ} {images : List Image} {w m : List ℕ} → 0 < p → i < d → i < 33 → PowerImages p q d i images
       → Remainder p q d w (x^ p ^ i) → Represents p m (poly p w + constant (residue p (p - 1)) · (x^ i · poly p (1 ∷ replicate 32 0)))

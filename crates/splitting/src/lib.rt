@@ -66,7 +66,8 @@ pub fn element_of(q: [u16; 33], d: usize, e: Element, p: u16) -> Found
     splitting_element(q, d, p)
 }
 
-// What an element v of q, of degree d, is for a factor b of q, of degree j: a splitting element, unless v is constant modulo b.
+// What an element v of q, of degree d, is for a factor b of q, of degree j: a splitting element, unless v is constant modulo b. What is called
+// known is an element; that one is known where it could be is not promised, since only time rests on it.
 pub fn element_for(v: [u16; 33], d: usize, b: [u16; 33], j: usize, p: u16) -> Element
     requires { ⌜ (d < 33) × (j < 33) × Reduced p 33 v × Below d (poly p v) × Monic j (poly p b) ⌝ }
     ensures { λ r. ⌜ ForFactor p d v j b r ⌝ }

@@ -2,7 +2,6 @@
 -- Assumes nothing.
 use borrow.Author.Needs.{needs}
 use Rattle.algebra.specs.Fields.{prime-pos}
-use Rattle.modular.specs.Coefficients.{zeros}
 use Rattle.dependency.specs.Storing.{monic-row}
 use Rattle.dependency.proofs.monic_row.Statement.{statement}
 use Rattle.dependency.proofs.monic_row.Tie as tie
@@ -14,10 +13,10 @@ monic-row-spec =
     (λ c. search needs)  -- mul-inverse
     (λ c. search needs)  -- array-read-inverse
     (λ c κs. let pre = c .before .before .pre in (pre .0, pre .4, pre .3 .low (c .before .before .args .k)))  -- inverse-requires
-    (λ c. search needs)  -- add-add-multiple
-    (λ c κs. let pre = c .before .before .before .pre in (zeros _ (prime-pos (pre .0)) .reduced, pre .5, search needs))  -- add-multiple-requires
-    (λ c. search needs)  -- add-add-multiple-2
-    (λ c κs. let pre = c .before .before .before .before .pre in (zeros _ (prime-pos (pre .0)) .reduced, pre .6, search needs))  -- add-multiple-requires-2
+    (λ c. search needs)  -- add-multiple
+    (λ c κs. let pre = c .before .before .before .pre in (prime-pos (pre .0), search needs, pre .5))  -- multiple-requires
+    (λ c. search needs)  -- add-multiple-2
+    (λ c κs. let pre = c .before .before .before .before .pre in (prime-pos (pre .0), search needs, pre .6))  -- multiple-requires-2
     (λ c.
     let pre = c .before .before .before .before .before .pre in
-    monic-row (pre .0) _ (c .before .before .inverse .ensures .1) (c .before .add-multiple .ensures) (c .add-multiple2 .ensures)))  -- returns
+    monic-row (pre .0) _ (c .before .before .inverse .ensures .1) (c .before .multiple .ensures) (c .multiple2 .ensures)))  -- returns

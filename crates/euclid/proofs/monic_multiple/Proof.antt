@@ -1,6 +1,6 @@
 -- `euclid::monic_multiple` meets its contract.
 -- Assumes nothing.
-use native.Mathlib.Nat.{mul-comm, pos-of-ne-zero}
+use native.Mathlib.Nat.{pos-of-ne-zero}
 use borrow.Author.Needs.{needs}
 use Rattle.modular.specs.Coefficients.{below-size}
 use Rattle.algebra.specs.Fields.{prime-pos}
@@ -19,5 +19,4 @@ monic-multiple-spec =
     (λ c κs. (prime-pos (c .before .pre .0), c .before .pre .2 .limit, below-size _ (c .before .pre .2)))  -- multiple-requires
     (λ c.
     let h = c .before .before .pre in
-    monic-by-inverse (prime-pos (h .0)) (h .2) (h .3) (rw (mul-comm (c .before .inverse .result)) (c .before .inverse .ensures .1))
-    (c .multiple .ensures)))  -- returns
+    monic-by-inverse (h .0) (h .2) (h .3) (c .before .inverse .ensures .1) (c .multiple .ensures)))  -- returns

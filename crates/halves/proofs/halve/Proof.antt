@@ -1,15 +1,16 @@
 -- `halves::halve` meets its contract. The loop has seen that the gcd of Q and v - k is 1 for every k below c.
 -- Assumes nothing.
-use Prim.Native.Nat.{_-_}
+use Prim.Native.Nat.{ℕ, _-_, _<_}
 use native.Mathlib.Numerals.{add-one}
 use native.Mathlib.Omega.{arith}
+use borrow.Author.Count.{below-none, below-more}
 use borrow.Author.Needs.{needs}
-use Rattle.halves.specs.Splitting.{Split, less-small, halves-of, coprime-at, Coprimes, coprimes-more, not-all}
+use Rattle.halves.specs.Splitting.{Split, less-small, halves-of, CoprimeTo, coprime-at, not-all}
 use Rattle.halves.proofs.halve.Statement.{statement}
 use Rattle.halves.proofs.halve.Tie as tie
 
 abbrev Inv-loop : tie.InvT-loop
-Inv-loop q d v p c₀ c = (S : Split p q d v) → Coprimes S c
+Inv-loop q d v p c₀ c = (S : Split p q d v) → (k : ℕ) → k < c → CoprimeTo S k
 
 abbrev μ-loop : tie.MeasureT-loop
 μ-loop q d v p c₀ c = p - c
@@ -18,7 +19,7 @@ pub halve-spec : {M : Type 1} → statement M
 halve-spec =
     tie.close
     (tie.spec Inv-loop μ-loop
-    (λ c S k l. absurd (omega arith))  -- loop-holds
+    (λ c S. below-none _)  -- loop-holds
     (λ c κs. (c .before .before .pre .element, search needs))  -- less-constant-requires
     (λ c κs.
     let S = c .before .before .before .pre in
@@ -37,6 +38,6 @@ halve-spec =
     (λ c. search needs)  -- loop-less
     (λ c S.
     let d = c .before .before .before .before .before in
-    coprimes-more S (d .loop .c) (d .loop .inv S)
+    below-more _ _ (d .loop .inv S)
     (coprime-at S (d .loop .c) (c .before .before .before .less-constant .ensures) (c .before .before .common-divisor .ensures) (search needs)))  -- loop-again
     (λ c. absurd (not-all (c .before .before .pre) (λ k l. c .before .loop .inv (c .before .before .pre) k (omega arith)))))  -- returns-2

@@ -1,10 +1,10 @@
 -- `lifting::defect` meets its contract.
 -- Assumes nothing.
-use native.Mathlib.Nat.{mul-le-mul}
 use native.Mathlib.Numerals.{add-one}
 use native.Mathlib.Omega.{arith}
 use borrow.Author.Needs.{needs}
 use Rattle.algebra.specs.Numbers.{square-large}
+use Rattle.modular.specs.Widths.{square-width}
 use Rattle.lifting.specs.Defect.{first-monic, second-monic, defect-is}
 use Rattle.lifting.proofs.defect.Statement.{statement}
 use Rattle.lifting.proofs.defect.Tie as tie
@@ -13,7 +13,7 @@ pub defect-spec : {M : Type 1} → statement M
 defect-spec =
     tie.close
     (tie.spec
-    (λ c. omega (arith, mul-le-mul {n₁ = c .args .p} {m₁ = c .args .p} {n₂ = 255} {m₂ = 255} (omega arith) (omega arith)))  -- mul-n
+    (λ c. omega (arith, square-width (c .args .p) (omega arith)))  -- mul-n
     (λ c. search needs)  -- add-product
     (λ c. search needs)  -- add-product-2
     (λ c κs.

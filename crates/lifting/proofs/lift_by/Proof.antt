@@ -1,8 +1,8 @@
 -- `lifting::lift_by` meets its contract.
 -- Assumes nothing.
-use native.Mathlib.Nat.{mul-le-mul}
 use native.Mathlib.Omega.{arith}
 use borrow.Author.Needs.{needs}
+use Rattle.modular.specs.Widths.{square-width}
 use Rattle.modular.specs.Arrays.{reduced-square, below-modulo}
 use Rattle.lifting.specs.Lifted.{lifted-is}
 use Rattle.lifting.proofs.lift_by.Statement.{statement}
@@ -14,9 +14,7 @@ lift-by-spec =
     (tie.spec
     (λ c κs. search needs)  -- defect-requires
     (λ c κs. search needs)  -- correction-requires
-    (λ c.
-    let p = c .before .before .before .before .args .p in
-    omega (arith, mul-le-mul {n₁ = p} {m₁ = p} {n₂ = 255} {m₂ = 255} (omega arith) (omega arith)))  -- mul-n
+    (λ c. omega (arith, square-width (c .before .before .before .before .args .p) (omega arith)))  -- mul-n
     (λ c κs.
     let F = c .before .before .before .before .pre .1 in
     let C = c .before .before .correction .ensures in

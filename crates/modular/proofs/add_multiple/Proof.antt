@@ -22,16 +22,16 @@ add-multiple-spec =
     (λ c. search needs)  -- add-end
     (λ c κs. omega (arith, c .pre .0 .low 0))  -- reciprocal-requires
     (λ c. replaced-none)  -- loop-holds
-    (λ c. search needs)  -- mul-add-product-by
-    (λ c. search needs)  -- array-read-add-product-by
-    (λ c. search needs)  -- sub-add-product-by
-    (λ c. search needs)  -- mul-add-product-by-2
-    (λ c. search needs)  -- array-read-add-product-by-2
-    (λ c κs. (omega (arith, c .before .before .before .pre .0 .low 0), c .before .before .reciprocal .ensures))  -- add-product-by-requires
+    (λ c. search needs)  -- mul-add-product
+    (λ c. search needs)  -- array-read-add-product
+    (λ c. search needs)  -- sub-add-product
+    (λ c. search needs)  -- mul-add-product-2
+    (λ c. search needs)  -- array-read-add-product-2
+    (λ c κs. (omega (arith, c .before .before .before .pre .0 .low 0), c .before .before .reciprocal .ensures))  -- add-product-requires
     (λ c. search needs)  -- mul-r
     (λ c. search needs)  -- array-write-r
     (λ c. search needs)  -- add-i
     (λ c. search needs)  -- loop-less
-    (λ c. replaced-more (c .before .before .loop .inv) (search needs) (c .add-product-by .ensures))  -- loop-again
+    (λ c. replaced-more (c .before .before .loop .inv) (search needs) (c .add-product .ensures))  -- loop-again
     (λ c. multiple-added _ _ _ _ _ (c .before .before .before .pre .0) (c .before .before .before .pre .1) (c .before .loop .inv)
     (c .loop-test .left)))  -- returns

@@ -1,4 +1,4 @@
--- `modular::add_product` meets its contract: the product of two numbers of 16 bits has 32.
+-- `modular::add_product` meets its contract: the sum has 32 bits.
 -- Assumes nothing.
 use native.Mathlib.Omega.{arith}
 use borrow.Author.Needs.{needs}
@@ -10,7 +10,7 @@ pub add-product-spec : {M : Type 1} → statement M
 add-product-spec =
     tie.close
     (tie.spec
-    (λ c. omega (arith, product-width (c .args .c) (c .args .z) (omega arith) (omega arith)))  -- mul-reduce
-    (λ c. omega (arith, product-width (c .args .c) (c .args .z) (omega arith) (omega arith)))  -- add-reduce
-    (λ c κs. search needs)  -- reduce-requires
-    (λ c. c .reduce .ensures .0))  -- returns
+    (λ c. omega (arith, product-width (c .args .c) (c .args .z) (omega arith) (omega arith)))  -- mul-reduce-by
+    (λ c. omega (arith, product-width (c .args .c) (c .args .z) (omega arith) (omega arith)))  -- add-reduce-by
+    (λ c κs. search needs)  -- reduce-by-requires
+    (λ c. search needs))  -- returns

@@ -3,7 +3,7 @@
 use native.Mathlib.Omega.{arith}
 use borrow.Author.Needs.{needs}
 use Rattle.modular.specs.Coefficients.{below-length}
-use Rattle.modular.specs.Sum.{difference-represented}
+use Rattle.modular.specs.Multiples.{difference-represented}
 use Rattle.modular.proofs.difference.Statement.{statement}
 use Rattle.modular.proofs.difference.Tie as tie
 

@@ -2,7 +2,7 @@
 -- Assumes nothing.
 use borrow.Author.Needs.{needs}
 use Rattle.modular.specs.Coefficients.{below-length}
-use Rattle.modular.specs.Sum.{sum-represented}
+use Rattle.modular.specs.Multiples.{sum-represented}
 use Rattle.modular.proofs.sum.Statement.{statement}
 use Rattle.modular.proofs.sum.Tie as tie
 

@@ -1,10 +1,10 @@
--- `euclid::multiple` meets its contract.
+-- `modular::multiple` meets its contract.
 -- Assumes nothing.
 use borrow.Author.Needs.{needs}
 use Rattle.modular.specs.Coefficients.{zeros}
-use Rattle.euclid.specs.MonicMultiples.{multiple-represented}
-use Rattle.euclid.proofs.multiple.Statement.{statement}
-use Rattle.euclid.proofs.multiple.Tie as tie
+use Rattle.modular.specs.Multiples.{multiple-represented}
+use Rattle.modular.proofs.multiple.Statement.{statement}
+use Rattle.modular.proofs.multiple.Tie as tie
 
 pub multiple-spec : {M : Type 1} → statement M
 multiple-spec =

@@ -1,0 +1,47 @@
+-- Multiples of arrays as `add_multiple` makes them, a + c·x^0·b: n − c stands for −c.
+-- Proves what is then taken off, and that the multiples by 1 and by n − 1, and that of the array of 0, represent sum, difference and multiple.
+-- Assumes nothing.
+use mathlib.Core.Path.{_≡_, _∙_, ap, ap₂}
+use mathlib.Core.List.{List}
+use Prim.Native.Nat.{ℕ, _≤_, _<_, _-_}
+use lib.ListN.{replicate}
+use Rattle.algebra.specs.Ring.{neg-mul, one-mul, zero-add}
+use Rattle.algebra.specs.Residues.{residue, Residues}
+use Rattle.algebra.specs.Polynomials.{PolyRing, _+_, _·_, -_, constant}
+use Rattle.algebra.specs.CoefficientLists.{ℤ[x]/, poly}
+use Rattle.algebra.specs.Monomials.{x^, shift-zero}
+use Rattle.modular.specs.Coefficients.{Represents, zeros, constant-residue-one, constant-residue-neg}
+
+module _ (n : ℕ) where
+  one-multiple : (b : ℤ[x]/ n) → constant (residue n 1) · b ≡ b
+  one-multiple b = ap (λ c. c · b) (constant-residue-one n) ∙ one-mul (PolyRing (Residues n)) b
+
+  pub negative-multiple : 0 < n → {c : ℕ} → c ≤ n → (b : ℤ[x]/ n) → constant (residue n (n - c)) · b ≡ - (constant (residue n c) · b)
+  negative-multiple pos {c} l b = ap (λ a. a · b) (constant-residue-neg n pos l) ∙ neg-mul (PolyRing (Residues n)) (constant (residue n c)) b
+
+  pub minus-one-multiple : 0 < n → (b : ℤ[x]/ n) → constant (residue n (n - 1)) · b ≡ - b
+  minus-one-multiple pos b = negative-multiple pos pos b ∙ ap (λ a. - a) (one-multiple b)
+
+  pub multiple-taken-off : 0 < n → {c : ℕ} → c ≤ n → {r : List ℕ} (a b : ℤ[x]/ n)
+      → Represents n r (a + constant (residue n (n - c)) · (x^ 0 · b)) → poly n r ≡ a + - (constant (residue n c) · b)
+  multiple-taken-off pos {c} l a b h =
+      h .is ∙ ap (λ e. a + e) (negative-multiple pos l (x^ 0 · b) ∙ ap (λ e. - (constant (residue n c) · e)) (shift-zero b))
+
+module _ (n : ℕ) (a b r : List ℕ) where
+  pub sum-represented : Represents n r (poly n a + constant (residue n 1) · (x^ 0 · poly n b)) → Represents n r (poly n a + poly n b)
+  sum-represented h = record { reduced = h .reduced; is = h .is ∙ ap (λ e. poly n a + e) (one-multiple n (x^ 0 · poly n b) ∙ shift-zero (poly n b)) }
+
+  pub difference-represented : 0 < n → Represents n r (poly n a + constant (residue n (n - 1)) · (x^ 0 · poly n b))
+      → Represents n r (poly n a + - poly n b)
+  difference-represented pos h = record {
+    reduced = h .reduced;
+    is = h .is ∙ ap (λ e. poly n a + e) (minus-one-multiple n pos (x^ 0 · poly n b) ∙ ap (λ e. - e) (shift-zero (poly n b)));
+  }
+
+pub multiple-represented : (n c : ℕ) (a r : List ℕ) → 0 < n
+    → Represents n r (poly n (replicate 33 0) + constant (residue n c) · (x^ 0 · poly n a)) → Represents n r (constant (residue n c) · poly n a)
+multiple-represented n c a r pos h = record {
+  reduced = h .reduced;
+  is = h .is ∙ ap₂ (λ z e. z + constant (residue n c) · e) (zeros n pos .is) (shift-zero (poly n a))
+      ∙ zero-add (PolyRing (Residues n)) (constant (residue n c) · poly n a);
+}
