@@ -1,5 +1,6 @@
 -- The three totals of an answer as sums over the code's parts: each part adds its factors with repeats, its records, its free digits.
--- Proves that these sums are the totals of the definitions, and what a loop over an array adds up. Assumes nothing.
+-- Proves what a loop over an array adds up, and that the sums are the totals of the definitions where no two factors are the same.
+-- Assumes nothing.
 use mathlib.Core.Path.{_≡_, refl, sym, _∙_, ap, subst}
 use mathlib.Core.Bool.{true, false}
 use mathlib.Core.List.{List, [], _∷_, map, flatMap}
@@ -10,7 +11,7 @@ use native.Mathlib.Omega.{arith}
 use lib.ListN.{length, getD, take, length-append}
 use lib.Seq.{getD-take, length-take-le}
 use Rattle.specification.specs.Polynomials.{degree}
-use Rattle.specification.specs.Totals.{copies, members, listOf, total, freeDigits}
+use Rattle.specification.specs.Totals.{copies, members, listOf, total, different, freeDigits}
 use Rattle.factorisation.specs.Members.{All}
 use Rattle.factorisation.specs.Sums.{total as sum}
 use Rattle.theorems.specs.Factors.{length-members}
@@ -19,7 +20,7 @@ use Rattle.verdicts.specs.declared.Part.{Part}
 use Rattle.verdicts.specs.Views.{asFactor, asPart}
 use Rattle.pieces.specs.Shifting.{all-read}
 use Rattle.writing.specs.Coefficients.{degree-listed}
-use Rattle.answers.specs.Layout.{isSplit, split-factors, other-factors}
+use Rattle.answers.specs.Layout.{isSplit, split-factors, other-factors, TotalsOf}
 
 -- ---- what a part adds
 
@@ -115,8 +116,9 @@ pub record Counted (xs : List Part) (s z r : ℕ) : Type 0 where
   pub different : z ≡ sum partRecords xs
   pub free : r ≡ sum partFree xs
 
--- what is asked of parts that are counted: each total is one byte
+-- what is asked of parts that are counted: no two factors are the same, and each total is one byte
 pub record Countable (xs : List Part) : Type 0 where
+  pub apart : different (listOf (map asPart xs)) ≡ sum partRecords xs
   pub factors : sum partFactors xs < 256
   pub different : sum partRecords xs < 256
   pub free : sum partFree xs < 256
@@ -127,8 +129,12 @@ pub counted-none : (xs : List Part) → Counted (take 0 xs) 0 0 0
 unfolding sum
 counted-none xs = record { factors = refl; different = refl; free = refl }
 
-pub counted-done : (xs : List Part) (i n : ℕ) {s z r : ℕ} → i ≤ n → n ≤ i → Counted (take i xs) s z r → Counted (take n xs) s z r
-counted-done xs i n {s} {z} {r} l u w = subst (λ (k : ℕ). Counted (take k xs) s z r) (let e : i ≡ n = omega arith in e) w
+-- what is counted are the three totals
+pub counted-done : (xs : List Part) (i n : ℕ) {s z r : ℕ} → i ≤ n → n ≤ i → Countable (take n xs) → Counted (take i xs) s z r
+    → TotalsOf (map asPart (take n xs)) (record { factors = s; different = z; free = r })
+counted-done xs i n {s} {z} {r} l u h w =
+    let all = subst (λ (k : ℕ). Counted (take k xs) s z r) (let e : i ≡ n = omega arith in e) w in
+    (all .factors ∙ sym (total-sum (take n xs)), all .different ∙ sym (h .apart), all .free ∙ sym (free-sum (take n xs)))
 
 -- a turn at the place i of n; d is what is read past the array's end
 module _ (d : Part) (xs : List Part) (n : ℕ) (room : n ≤ length xs) (i : ℕ) (l : i < n) where

@@ -12,7 +12,7 @@ use Rattle.specification.specs.Polynomials.{Poly}
 use Rattle.specification.specs.Parts as parts
 use Rattle.specification.specs.Totals.{listOf, total, different, freeDigits}
 use Rattle.specification.specs.Sheets.{coefficientBytes}
-use Rattle.specification.specs.Answers.{verdictNumber, factorBytes, partBytes, totalBytes}
+use Rattle.specification.specs.Answers.{verdictNumber, factorBytes, partBytes, totalBytes, endBytes}
 use Rattle.factorisation.specs.Members.{flatMap-append}
 use Rattle.theorems.specs.AnswerLayout.{answerBytes}
 use Rattle.verdicts.specs.declared.Verdict.{Verdict}
@@ -22,6 +22,7 @@ use Rattle.verdicts.specs.declared.Part.{Part}
 use Rattle.verdicts.specs.Views.{asVerdict, asFactor, asFactors, asPart}
 use Rattle.writing.specs.Turns.{Turns}
 use Rattle.writing.specs.Coefficients.{degree-listed, lower-listed}
+use Rattle.answers.specs.declared.Totals.{Totals}
 
 -- "0x12 followed by its 0x03 commands"
 pub factor-is : (q : Factor) → length (q .coefs) ≡ 33 → q .degree ≤ 32
@@ -117,15 +118,15 @@ part-turns d xs n l = flat-turns (λ (x : Part). partBytes (asPart x)) d xs n l
 
 -- ---- the whole
 
--- 0x13 and the end
-abbrev pub endBytes : ℕ → ℕ → ℕ → List ℕ
-endBytes s z r = 0x13 ∷ s ∷ z ∷ r ∷ 0x0F ∷ []
+-- "factors with repeats; different factors; free digits"
+abbrev pub TotalsOf : List parts.Part → Totals → Type 0
+TotalsOf Ps t = (t .factors ≡ total Ps) × (t .different ≡ different (listOf Ps)) × (t .free ≡ freeDigits Ps)
 
-pub answer-is : (p d : ℕ) (xs : List Part) {s z r : ℕ} → s ≡ total (map asPart xs) → z ≡ different (listOf (map asPart xs)) → r ≡ freeDigits (map asPart xs)
-    → (0x01 ∷ p ∷ 0x02 ∷ d ∷ []) ++ partsBytes xs ++ endBytes s z r ≡ answerBytes p d (map asPart xs)
-unfolding totalBytes
-answer-is p d xs e f g =
-    let Ps : List parts.Part = map asPart xs in
-    rw (e, f, g) (ap (λ (l : List ℕ). 0x01 ∷ p ∷ 0x02 ∷ d ∷ l)
-    (ap (λ (l : List ℕ). l ++ endBytes (total Ps) (different (listOf Ps)) (freeDigits Ps)) (sym (flatMap-map partBytes asPart xs))
-    ∙ sym (append-assoc (flatMap partBytes Ps) (totalBytes Ps) (0x0F ∷ []))))
+-- "then 0x13, 0x0F"
+pub end-is : (Ps : List parts.Part) {t : Totals} → TotalsOf Ps t → (0x13 ∷ t .factors ∷ t .different ∷ t .free ∷ []) ++ (0x0F ∷ []) ≡ endBytes Ps
+unfolding endBytes totalBytes
+end-is Ps (e, f, g) = rw (e, f, g)
+
+pub answer-is : (p d : ℕ) (xs : List Part)
+    → (0x01 ∷ p ∷ 0x02 ∷ d ∷ []) ++ partsBytes xs ++ endBytes (map asPart xs) ≡ answerBytes p d (map asPart xs)
+answer-is p d xs = ap (λ (l : List ℕ). 0x01 ∷ p ∷ 0x02 ∷ d ∷ (l ++ endBytes (map asPart xs))) (sym (flatMap-map partBytes asPart xs))

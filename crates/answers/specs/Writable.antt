@@ -10,9 +10,9 @@ use lib.ListN.{length}
 use Rattle.specification.specs.Limits.{answerArea}
 use Rattle.specification.specs.Polynomials.{Poly, degree}
 use Rattle.specification.specs.Parts as parts
-use Rattle.specification.specs.Totals.{copies, members, listOf, total, different, freeDigits}
+use Rattle.specification.specs.Totals.{copies, members, listOf, different}
 use Rattle.specification.specs.Sheets.{sheetOf}
-use Rattle.specification.specs.Answers.{partBytes, totalBytes, answer}
+use Rattle.specification.specs.Answers.{partBytes, totalBytes, endBytes, answer}
 use Rattle.specification.specs.Promises.{Fits, GoodSheet}
 use Rattle.factorisation.specs.Members.{_∈_, All}
 use Rattle.factorisation.specs.Sums.{total-nil, total-cons}
@@ -26,9 +26,9 @@ use Rattle.verdicts.specs.Views.{asPart}
 use Rattle.verdicts.specs.SplitByItems.{PartHeld}
 use Rattle.pieces.specs.declared.Parts.{Parts}
 use Rattle.pieces.specs.Views.{held}
-use Rattle.writing.specs.Area.{Room}
-use Rattle.answers.specs.Layout.{partsBytes, endBytes, answer-is}
-use Rattle.answers.specs.Counting.{total-sum, records-sum, free-sum, Counted, Countable}
+use Rattle.writing.specs.Area.{Room, room-as}
+use Rattle.answers.specs.Layout.{partsBytes, answer-is}
+use Rattle.answers.specs.Counting.{total-sum, records-sum, free-sum, Countable}
 
 -- the degrees that stand in a part are within the limit
 pub record DegreesFit (x : Part) : Type 0 where
@@ -52,12 +52,14 @@ pub record Writable (p d : ℕ) (a : Parts) : Type 0 where
 module _ {p d : ℕ} {a : Parts} (h : Writable p d a) where
   -- the three totals are bytes of the answer
   low-total : {b : ℕ} → b ∈ totalBytes (heldParts a) → b < 256
+  unfolding endBytes
   low-total {b} i =
-      h .fits .low b (there (there (there (there (Memᴰ·append-left (0x0F ∷ []) (Memᴰ·append-right (flatMap partBytes (heldParts a)) i))))))
+      h .fits .low b (there (there (there (there (Memᴰ·append-right (flatMap partBytes (heldParts a)) (Memᴰ·append-left (0x0F ∷ []) i))))))
 
   pub writable-countable : Countable (held a)
   unfolding totalBytes
   writable-countable = record {
+    apart = h .apart ∙ records-sum (held a);
     factors = subst (λ k. k < 256) (total-sum (held a)) (low-total (there (here refl)));
     different = subst (λ k. k < 256) (h .apart ∙ records-sum (held a)) (low-total (there (there (here refl))));
     free = subst (λ k. k < 256) (free-sum (held a)) (low-total (there (there (there (here refl)))));
@@ -65,18 +67,10 @@ module _ {p d : ℕ} {a : Parts} (h : Writable p d a) where
     repeated = λ x i. h .repeated (asPart x) (Memᴰ·map asPart i);
   }
 
-  -- what is counted are the three totals
-  pub counted-totals : {s z r : ℕ} → Counted (held a) s z r
-      → (s ≡ total (heldParts a)) × (z ≡ different (listOf (heldParts a))) × (r ≡ freeDigits (heldParts a))
-  counted-totals w = (w .factors ∙ sym (total-sum (held a)), w .different ∙ sym (h .apart ∙ records-sum (held a)), w .free ∙ sym (free-sum (held a)))
-
-  -- the answer, as it is written
-  pub answer-written : {s z r : ℕ} → Counted (held a) s z r
-      → (0x01 ∷ p ∷ 0x02 ∷ d ∷ []) ++ partsBytes (held a) ++ endBytes s z r ≡ answerBytes p d (heldParts a)
-  answer-written w = let (e, f, g) = counted-totals w in answer-is p d (held a) e f g
-
-  pub answer-room : {area : List ℕ} → answerArea ≤ length area → Room area 0 (answerBytes p d (heldParts a))
-  answer-room l = record { fits = omega (arith, h .fits .short); low = h .fits .low }
+  -- there is room for the answer as it is written
+  pub answer-room : {area : List ℕ} → answerArea ≤ length area
+      → Room area 0 ((0x01 ∷ p ∷ 0x02 ∷ d ∷ []) ++ partsBytes (held a) ++ endBytes (heldParts a))
+  answer-room l = room-as (answer-is p d (held a)) (record { fits = omega (arith, h .fits .short); low = h .fits .low })
 
 -- ---- the parts of a good sheet
 

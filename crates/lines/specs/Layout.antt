@@ -1,7 +1,7 @@
 -- The lines of an answer over the code's arrays, as they are written one after the other.
 -- Proves that they are those of the definitions. Assumes nothing.
 use mathlib.Core.Path.{_≡_, refl, sym, ap, ap₂}
-use mathlib.Core.List.{List, [], _∷_, _++_, flatMap}
+use mathlib.Core.List.{List, [], _∷_, _++_, map, flatMap}
 use Prim.Native.Nat.{ℕ, _≤_, _+_}
 use native.Mathlib.Numerals.{add-one}
 use native.Mathlib.Omega.{arith}
@@ -27,12 +27,11 @@ use Rattle.verdicts.specs.declared.Factor.{Factor}
 use Rattle.verdicts.specs.declared.Part.{Part}
 use Rattle.verdicts.specs.Views.{asVerdict, asFactor, asFactors, asPart}
 use Rattle.pieces.specs.declared.Parts.{Parts}
-use Rattle.pieces.specs.Views.{held}
 use Rattle.writing.specs.Turns.{Turns}
 use Rattle.writing.specs.Coefficients.{degree-listed}
-use Rattle.answers.specs.Layout.{flat-turns, flatMap-map}
-use Rattle.answers.specs.Counting.{Counted}
-use Rattle.answers.specs.Writable.{heldParts, Writable, counted-totals}
+use Rattle.answers.specs.declared.Totals.{Totals}
+use Rattle.answers.specs.Layout.{flat-turns, flatMap-map, TotalsOf}
+use Rattle.answers.specs.Writable.{heldParts}
 
 -- ---- words
 
@@ -70,14 +69,13 @@ heldText xs = flatMap (λ (x : Part). partText (asPart x)) xs
 pub part-turns : (d : Part) (xs : List Part) (n : ℕ) → n ≤ length xs → Turns (λ i. heldText (take i xs)) (λ i. partText (asPart (getD xs i d))) n
 part-turns d xs n l = flat-turns (λ (x : Part). partText (asPart x)) d xs n l
 
-pub lines-are : {p d : ℕ} {a : Parts} → Writable p d a → {s z r : ℕ} → Counted (held a) s z r
-    → headText p d ++ heldText (held a) ++ totalText s z r ≡ partsText p d (heldParts a)
+pub lines-are : (p d : ℕ) (xs : List Part) {t : Totals} → TotalsOf (map asPart xs) t
+    → headText p d ++ heldText xs ++ totalText (t .factors) (t .different) (t .free) ≡ partsText p d (map asPart xs)
 unfolding partsText
-lines-are {p} {d} {a} h w =
-    let (e, f, g) = counted-totals h w in
-    let Ps = heldParts a in
+lines-are p d xs (e, f, g) =
+    let Ps = map asPart xs in
     let totals = totalText (total Ps) (different (listOf Ps)) (freeDigits Ps) in
-    rw (e, f, g) (ap (λ (l : List ℕ). headText p d ++ l ++ totals) (sym (flatMap-map partText asPart (held a))))
+    rw (e, f, g) (ap (λ (l : List ℕ). headText p d ++ l ++ totals) (sym (flatMap-map partText asPart xs)))
 
 -- the lines for the sheet of p and f, which is of degree d
 pub text-of-sheet : (p d : ℕ) (f : Poly) (a : Parts) → heldParts a ≡ partsOf p f → degree f ≡ d

@@ -7,13 +7,13 @@ use mathlib.Core.List.{List·Memᴰ·head as here}
 use Prim.Native.Nat.{ℕ, _≤_, _<_, _*_ as _*ℕ_}
 use native.Mathlib.Nat.{mul-le-mul-left}
 use native.Mathlib.Omega.{arith}
-use lib.ListN.{length}
+use lib.ListN.{length, drop}
 use Rattle.specification.specs.Polynomials as spec
 use Rattle.specification.specs.Powers.{powers}
 use Rattle.specification.specs.Parts.{Factor, Part, partOf, partsOf}
-use Rattle.specification.specs.Totals.{copies, listOf, total, different, freeDigits}
+use Rattle.specification.specs.Totals.{copies, listOf}
 use Rattle.specification.specs.Sheets.{Sheet, sheetBytes}
-use Rattle.specification.specs.Answers.{verdictNumber, factorBytes, partBytes, totalBytes, answer}
+use Rattle.specification.specs.Answers.{verdictNumber, factorBytes, partBytes, totalBytes, endBytes, answer}
 use Rattle.specification.specs.Claims as claims
 use Rattle.specification.specs.Promises.{GoodSheet}
 use Rattle.algebra.specs.Numbers.{square-large}
@@ -97,16 +97,14 @@ abbrev pub itemsOf : Sheet → List Item
 itemsOf s = flatMap partItems (sheetParts s)
 
 -- what stands after 0x13
-abbrev pub totalsOf : Sheet → List ℕ
-totalsOf s = total (sheetParts s) ∷ different (listOf (sheetParts s)) ∷ freeDigits (sheetParts s) ∷ 0x0F ∷ []
+abbrev pub afterItems : Sheet → List ℕ
+afterItems s = drop 1 (endBytes (sheetParts s))
 
-pub answer-items : (s : Sheet) → answer s ≡ 0x01 ∷ s .prime ∷ 0x02 ∷ spec.degree (s .poly) ∷ bytesOf (itemsOf s) (totalsOf s)
-unfolding totalBytes
+pub answer-items : (s : Sheet) → answer s ≡ 0x01 ∷ s .prime ∷ 0x02 ∷ spec.degree (s .poly) ∷ bytesOf (itemsOf s) (afterItems s)
+unfolding endBytes totalBytes
 answer-items s =
     answer-is s
-    ∙ ap (λ (l : List ℕ). 0x01 ∷ s .prime ∷ 0x02 ∷ spec.degree (s .poly) ∷ l)
-    (append-assoc (flatMap partBytes (sheetParts s)) (totalBytes (sheetParts s)) (0x0F ∷ [])
-    ∙ ap (λ (l : List ℕ). l ++ (0x13 ∷ totalsOf s)) (sym (parts-bytes (sheetParts s))))
+    ∙ ap (λ (l : List ℕ). 0x01 ∷ s .prime ∷ 0x02 ∷ spec.degree (s .poly) ∷ (l ++ endBytes (sheetParts s))) (sym (parts-bytes (sheetParts s)))
 
 module _ (s : Sheet) (g : GoodSheet s) where
   abbrev n : ℕ

@@ -23,7 +23,7 @@ use Rattle.sheets.specs.Views.{polyIn}
 use Rattle.reading.specs.declared.Candidate.{Candidate}
 use Rattle.reading.specs.declared.Grown.{Grown}
 use Rattle.reading.specs.Found.{ProductOf, CandidateOf}
-use Rattle.reading.specs.AnswerItems.{itemsOf, totalsOf, answer-items, large, monic, items-degree, items-product, items-all-fit}
+use Rattle.reading.specs.AnswerItems.{itemsOf, afterItems, answer-items, large, monic, items-degree, items-product, items-all-fit}
 
 -- nothing is found, and the bytes are no answer
 pub none-found : {bytes : List ℕ} {r : Candidate} → r .found ≡ false → ((s : Sheet) → GoodSheet s → bytes ≡ answer s → ⊥) → CandidateOf bytes r
@@ -52,7 +52,7 @@ module _ {bytes : List ℕ} (s : Sheet) (g : GoodSheet s) (e : bytes ≡ answer 
 
     found-all : (r .found ≡ true) × (poly (s .prime *ℕ s .prime) (r .coefs) ≡ poly (s .prime *ℕ s .prime) (s .poly))
     found-all =
-        let (found, is) = product-of .exact (itemsOf s) (totalsOf s) (items-all-fit s g) (omega (arith, items-degree s g, g .fits))
+        let (found, is) = product-of .exact (itemsOf s) (afterItems s) (items-all-fit s g) (omega (arith, items-degree s g, g .fits))
         (ap (drop 4) (e ∙ answer-items s)) in
         (found, is ∙ sym (items-product s g))
 

@@ -27,8 +27,12 @@ partBytes P =
 unfoldable pub totalBytes : List Part → List ℕ
 totalBytes Ps = 0x13 ∷ total Ps ∷ different (listOf Ps) ∷ freeDigits Ps ∷ []
 
+-- all that follows the parts: "then 0x13, 0x0F"
+unfoldable pub endBytes : List Part → List ℕ
+endBytes Ps = totalBytes Ps ++ (0x0F ∷ [])
+
 -- the answer's bytes: "what a definition fed the sheet alone gives by items 1 to 9 and the layout"
 unfoldable pub answer : Sheet → List ℕ
 answer s =
     let Ps : List Part = partsOf (s .prime) (s .poly) in
-    0x01 ∷ s .prime ∷ 0x02 ∷ degree (s .poly) ∷ (flatMap partBytes Ps ++ totalBytes Ps ++ (0x0F ∷ []))
+    0x01 ∷ s .prime ∷ 0x02 ∷ degree (s .poly) ∷ (flatMap partBytes Ps ++ endBytes Ps)

@@ -6,6 +6,7 @@ use mathlib.Core.Path.{_≡_, refl}
 use Prim.Native.Nat.{ℕ}
 use mathlib.Core.List.{List, [], _∷_, _++_, map}
 use Rattle.specification.specs.Open.{everything}
+use Rattle.specification.specs.Limits.{answerArea}
 use Rattle.specification.specs.Powers.{monics}
 use Rattle.specification.specs.Calls.{Outcome, success, splitCall, readCall}
 use Rattle.specification.specs.Text.{ascii, printed}
@@ -42,40 +43,40 @@ exampleAnswer =
 abbrev pub edges : List Edge
 edges =
     -- "degree 0 and 33 give 5, 1 and 32 pass"
-    edge splitCall 384 (0x01 ∷ 2 ∷ 0x02 ∷ 0 ∷ 0x0F ∷ []) 5 3
-    ∷ edge splitCall 384 (0x01 ∷ 2 ∷ 0x02 ∷ 33 ∷ 0x0F ∷ []) 5 3
-    ∷ edge splitCall 384 (0x01 ∷ 2 ∷ 0x02 ∷ 1 ∷ 0x0F ∷ []) 0 0
-    ∷ edge splitCall 384 (0x01 ∷ 2 ∷ 0x02 ∷ 32 ∷ 0x0F ∷ []) 0 0
+    edge splitCall answerArea (0x01 ∷ 2 ∷ 0x02 ∷ 0 ∷ 0x0F ∷ []) 5 3
+    ∷ edge splitCall answerArea (0x01 ∷ 2 ∷ 0x02 ∷ 33 ∷ 0x0F ∷ []) 5 3
+    ∷ edge splitCall answerArea (0x01 ∷ 2 ∷ 0x02 ∷ 1 ∷ 0x0F ∷ []) 0 0
+    ∷ edge splitCall answerArea (0x01 ∷ 2 ∷ 0x02 ∷ 32 ∷ 0x0F ∷ []) 0 0
     -- "With p = 2 the value 3 passes, 4 and 0 give 7"
-    ∷ edge splitCall 384 (0x01 ∷ 2 ∷ 0x02 ∷ 2 ∷ 0x03 ∷ 0 ∷ 3 ∷ 0x0F ∷ []) 0 0
-    ∷ edge splitCall 384 (0x01 ∷ 2 ∷ 0x02 ∷ 2 ∷ 0x03 ∷ 0 ∷ 4 ∷ 0x0F ∷ []) 7 6
-    ∷ edge splitCall 384 (0x01 ∷ 2 ∷ 0x02 ∷ 2 ∷ 0x03 ∷ 0 ∷ 0 ∷ 0x0F ∷ []) 7 6
+    ∷ edge splitCall answerArea (0x01 ∷ 2 ∷ 0x02 ∷ 2 ∷ 0x03 ∷ 0 ∷ 3 ∷ 0x0F ∷ []) 0 0
+    ∷ edge splitCall answerArea (0x01 ∷ 2 ∷ 0x02 ∷ 2 ∷ 0x03 ∷ 0 ∷ 4 ∷ 0x0F ∷ []) 7 6
+    ∷ edge splitCall answerArea (0x01 ∷ 2 ∷ 0x02 ∷ 2 ∷ 0x03 ∷ 0 ∷ 0 ∷ 0x0F ∷ []) 7 6
     -- "Index n − 1 passes, n gives 6"
-    ∷ edge splitCall 384 (0x01 ∷ 2 ∷ 0x02 ∷ 2 ∷ 0x03 ∷ 1 ∷ 1 ∷ 0x0F ∷ []) 0 0
-    ∷ edge splitCall 384 (0x01 ∷ 2 ∷ 0x02 ∷ 2 ∷ 0x03 ∷ 2 ∷ 1 ∷ 0x0F ∷ []) 6 5
+    ∷ edge splitCall answerArea (0x01 ∷ 2 ∷ 0x02 ∷ 2 ∷ 0x03 ∷ 1 ∷ 1 ∷ 0x0F ∷ []) 0 0
+    ∷ edge splitCall answerArea (0x01 ∷ 2 ∷ 0x02 ∷ 2 ∷ 0x03 ∷ 2 ∷ 1 ∷ 0x0F ∷ []) 6 5
     -- "An area of 383 bytes gives 1, 384 passes"
     ∷ edge splitCall 383 example 1 0
     ∷ edge splitCall 384 example 0 0
     -- "An empty sheet gives 2 at 0"
-    ∷ edge splitCall 384 [] 2 0
+    ∷ edge splitCall answerArea [] 2 0
     -- "Prime 4 with degree 40 gives 4"; "01 04 gives `refused 4 at 1`"
-    ∷ edge splitCall 384 (0x01 ∷ 4 ∷ 0x02 ∷ 40 ∷ 0x0F ∷ []) 4 1
-    ∷ edge splitCall 384 (0x01 ∷ 4 ∷ []) 4 1
+    ∷ edge splitCall answerArea (0x01 ∷ 4 ∷ 0x02 ∷ 40 ∷ 0x0F ∷ []) 4 1
+    ∷ edge splitCall answerArea (0x01 ∷ 4 ∷ []) 4 1
     -- 2 where the bytes end; 3 at each command's place
-    ∷ edge splitCall 384 (0x01 ∷ 2 ∷ 0x02 ∷ 2 ∷ 0x03 ∷ 0 ∷ []) 2 6
-    ∷ edge splitCall 384 (0x02 ∷ 2 ∷ []) 3 0
-    ∷ edge splitCall 384 (0x01 ∷ 2 ∷ 0x03 ∷ []) 3 2
-    ∷ edge splitCall 384 (0x01 ∷ 2 ∷ 0x02 ∷ 2 ∷ 0x02 ∷ []) 3 4
+    ∷ edge splitCall answerArea (0x01 ∷ 2 ∷ 0x02 ∷ 2 ∷ 0x03 ∷ 0 ∷ []) 2 6
+    ∷ edge splitCall answerArea (0x02 ∷ 2 ∷ []) 3 0
+    ∷ edge splitCall answerArea (0x01 ∷ 2 ∷ 0x03 ∷ []) 3 2
+    ∷ edge splitCall answerArea (0x01 ∷ 2 ∷ 0x02 ∷ 2 ∷ 0x02 ∷ []) 3 4
     -- 6 where an index comes again, and past n − 1; 8 after the end
-    ∷ edge splitCall 384 (0x01 ∷ 2 ∷ 0x02 ∷ 2 ∷ 0x03 ∷ 0 ∷ 1 ∷ 0x03 ∷ 0 ∷ 1 ∷ 0x0F ∷ []) 6 8
-    ∷ edge splitCall 384 (0x01 ∷ 2 ∷ 0x02 ∷ 1 ∷ 0x03 ∷ 0 ∷ 1 ∷ 0x03 ∷ 1 ∷ 1 ∷ 0x0F ∷ []) 6 8
-    ∷ edge splitCall 384 (0x01 ∷ 2 ∷ 0x02 ∷ 1 ∷ 0x0F ∷ 0x0F ∷ []) 8 5
+    ∷ edge splitCall answerArea (0x01 ∷ 2 ∷ 0x02 ∷ 2 ∷ 0x03 ∷ 0 ∷ 1 ∷ 0x03 ∷ 0 ∷ 1 ∷ 0x0F ∷ []) 6 8
+    ∷ edge splitCall answerArea (0x01 ∷ 2 ∷ 0x02 ∷ 1 ∷ 0x03 ∷ 0 ∷ 1 ∷ 0x03 ∷ 1 ∷ 1 ∷ 0x0F ∷ []) 6 8
+    ∷ edge splitCall answerArea (0x01 ∷ 2 ∷ 0x02 ∷ 1 ∷ 0x0F ∷ 0x0F ∷ []) 8 5
     -- "The answer reader gives only 1 and 9"
     ∷ edge readCall 383 exampleAnswer 1 0
-    ∷ edge readCall 384 exampleAnswer 0 0
-    ∷ edge readCall 384 (exampleAnswer ++ (0x0F ∷ [])) 9 0
-    ∷ edge readCall 384 example 9 0
-    ∷ edge readCall 384 [] 9 0
+    ∷ edge readCall answerArea exampleAnswer 0 0
+    ∷ edge readCall answerArea (exampleAnswer ++ (0x0F ∷ [])) 9 0
+    ∷ edge readCall answerArea example 9 0
+    ∷ edge readCall answerArea [] 9 0
     ∷ []
 
 -- the definitions give the table
@@ -84,12 +85,12 @@ unfolding everything
 edges-hold = refl
 
 -- the program's example, there
-pub example-answered : splitCall 384 example ≡ success exampleAnswer
+pub example-answered : splitCall answerArea example ≡ success exampleAnswer
 unfolding everything
 example-answered = refl
 
 -- and back
-pub example-read : readCall 384 exampleAnswer ≡ success example
+pub example-read : readCall answerArea exampleAnswer ≡ success example
 unfolding everything
 example-read = refl
 
@@ -116,7 +117,7 @@ refusal-printed = refl
 
 -- x³ + 2x² + x modulo 4: basic x, then a later part that is split as the first is; power: x + 1 twice
 pub later-part-answered :
-    splitCall 384 (0x01 ∷ 2 ∷ 0x02 ∷ 3 ∷ 0x03 ∷ 1 ∷ 1 ∷ 0x03 ∷ 2 ∷ 2 ∷ 0x0F ∷ [])
+    splitCall answerArea (0x01 ∷ 2 ∷ 0x02 ∷ 3 ∷ 0x03 ∷ 1 ∷ 1 ∷ 0x03 ∷ 2 ∷ 2 ∷ 0x0F ∷ [])
     ≡ success (0x01 ∷ 2 ∷ 0x02 ∷ 3 ∷ 0x11 ∷ 1 ∷ 1 ∷ 1 ∷ 0x12 ∷ 1 ∷ 1 ∷ 0x11 ∷ 1 ∷ 2 ∷ 3 ∷ 0x12 ∷ 1 ∷ 2 ∷ 0x03 ∷ 0 ∷ 1 ∷ 0x13 ∷ 3 ∷ 2 ∷ 1 ∷ 0x0F ∷ [])
 unfolding everything
 later-part-answered = refl

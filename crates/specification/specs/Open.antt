@@ -12,7 +12,7 @@ use Rattle.specification.specs.Powers.{polynomials, monics, monicsTo, hi
 use Rattle.specification.specs.Parts.{hBar, m1, w, u, splitting, partsOf}
 use Rattle.specification.specs.Totals.{members, listOf, different, freeDigits}
 use Rattle.specification.specs.Sheets.{step, atEnd, readFrom, readSheet, coefficientBytes, sheetBytes}
-use Rattle.specification.specs.Answers.{factorBytes, partBytes, totalBytes, answer}
+use Rattle.specification.specs.Answers.{factorBytes, partBytes, totalBytes, endBytes, answer}
 use Rattle.specification.specs.FactorList.{operandCount, commandsAfter, withCoefficients, factorsIn, totalIn, factorList, factorTotal, differentTotal}
 use Rattle.specification.specs.Calls.{answerTo, splitCall, sheetIn, isAnswerTo, readCall}
 use Rattle.specification.specs.Text.{lastDigits, decimal, headText, coefficientText, factorText, partText, totalText, partsText, answerText}
@@ -32,7 +32,7 @@ unfolding
     hBar m1 w u splitting partsOf
     members listOf different freeDigits
     step atEnd readFrom readSheet coefficientBytes sheetBytes
-    factorBytes partBytes totalBytes answer
+    factorBytes partBytes totalBytes endBytes answer
     operandCount commandsAfter withCoefficients factorsIn totalIn factorList factorTotal differentTotal
     answerTo splitCall sheetIn isAnswerTo readCall
     lastDigits decimal headText coefficientText factorText partText totalText partsText answerText refusalText printed

@@ -1,18 +1,18 @@
 -- An answer's bytes as a function of the prime, the degree and the parts: `answerBytes p d Ps`.
 -- Proves the clauses of the layout as equations, so that the proofs about answers leave the definitions shut. Assumes nothing.
 use mathlib.Core.Path.{_≡_, refl}
-use mathlib.Core.List.{List, [], _∷_, _++_, flatMap}
+use mathlib.Core.List.{List, _∷_, _++_, flatMap}
 use Prim.Native.Nat.{ℕ}
 use lib.ListN.{replicate}
 use Rattle.specification.specs.Polynomials.{degree, lower}
 use Rattle.specification.specs.Parts.{Factor, Part, partsOf}
 use Rattle.specification.specs.Totals.{copies, members, listOf}
 use Rattle.specification.specs.Sheets.{Sheet, coefficientBytes}
-use Rattle.specification.specs.Answers.{verdictNumber, factorBytes, partBytes, totalBytes, answer}
+use Rattle.specification.specs.Answers.{verdictNumber, factorBytes, partBytes, endBytes, answer}
 
 -- "0x01, 0x02, then each part as 0x11 with its factors, then 0x13, 0x0F"
 abbrev pub answerBytes : ℕ → ℕ → List Part → List ℕ
-answerBytes p d Ps = 0x01 ∷ p ∷ 0x02 ∷ d ∷ (flatMap partBytes Ps ++ totalBytes Ps ++ (0x0F ∷ []))
+answerBytes p d Ps = 0x01 ∷ p ∷ 0x02 ∷ d ∷ (flatMap partBytes Ps ++ endBytes Ps)
 
 -- the parts of a sheet's polynomial
 abbrev pub sheetParts : Sheet → List Part

@@ -10,7 +10,7 @@ use Rattle.specification.specs.Polynomials.{monomial}
 use Rattle.specification.specs.Parts.{Factor, Part}
 use Rattle.specification.specs.Totals.{copies, listOf, total, different}
 use Rattle.specification.specs.Sheets.{Sheet}
-use Rattle.specification.specs.Answers.{factorBytes, partBytes, totalBytes, answer}
+use Rattle.specification.specs.Answers.{factorBytes, partBytes, totalBytes, endBytes, answer}
 use Rattle.specification.specs.FactorList.{
   operandCount,
   commandsAfter,
@@ -46,8 +46,8 @@ factors-factor : (e t : ℕ) (bytes : List ℕ)
 unfolding factorsIn commandsAfter operandCount first
 factors-factor e t bytes = refl
 
-factors-end : (Ps : List Part) → factorsIn (commands (totalBytes Ps ++ (0x0F ∷ []))) ≡ []
-unfolding factorsIn commandsAfter operandCount first totalBytes
+factors-end : (Ps : List Part) → factorsIn (commands (endBytes Ps)) ≡ []
+unfolding factorsIn commandsAfter operandCount first endBytes totalBytes
 factors-end Ps = refl
 
 total-head : (j p d : ℕ) (bytes : List ℕ) → totalIn j (commands (0x01 ∷ p ∷ 0x02 ∷ d ∷ bytes)) ≡ totalIn j (commands bytes)
@@ -62,6 +62,14 @@ total-factor : (j e t : ℕ) (bytes : List ℕ) → totalIn j (commands (0x12 �
 unfolding totalIn commandsAfter operandCount first
 total-factor j e t bytes = refl
 
+total-end : (Ps : List Part) → totalIn 0 (commands (endBytes Ps)) ≡ total Ps
+unfolding totalIn commandsAfter operandCount first endBytes totalBytes
+total-end Ps = refl
+
+different-end : (Ps : List Part) → totalIn 1 (commands (endBytes Ps)) ≡ different (listOf Ps)
+unfolding totalIn commandsAfter operandCount first endBytes totalBytes
+different-end Ps = refl
+
 -- ---- no 0x03 follows a factor's own
 
 other-factors : (qs : List Factor) (bytes : List ℕ) → Other (commands bytes) → Other (commands (flatMap factorBytes qs ++ bytes))
@@ -74,8 +82,8 @@ unfolding flatMap partBytes commandsAfter operandCount
 other-parts [] bytes o = o
 other-parts (P ∷ Ps) bytes o = refl
 
-other-end : (Ps : List Part) → Other (commands (totalBytes Ps ++ (0x0F ∷ [])))
-unfolding commandsAfter totalBytes
+other-end : (Ps : List Part) → Other (commands (endBytes Ps))
+unfolding commandsAfter endBytes totalBytes
 other-end Ps = refl
 
 -- ---- the list
@@ -112,16 +120,16 @@ module _ (s : Sheet) where
   pub list-back : {n : ℕ} → MonicFactors n (sheetParts s) → factorList (answer s) ≡ listOf (sheetParts s)
   unfolding factorList
   list-back h =
-      let back = parts-back (sheetParts s) (totalBytes (sheetParts s) ++ (0x0F ∷ [])) h (other-end (sheetParts s)) in
-      simp (answer-is, factors-head, append-assoc, back, factors-end, append-nil)
+      let back = parts-back (sheetParts s) (endBytes (sheetParts s)) h (other-end (sheetParts s)) in
+      simp (answer-is, factors-head, back, factors-end, append-nil)
 
   pub total-back : factorTotal (answer s) ≡ total (sheetParts s)
   unfolding factorTotal
-  total-back = simp (answer-is, total-head, append-assoc, total-parts) (unfold totalIn commandsAfter operandCount first totalBytes in refl)
+  total-back = simp (answer-is, total-head, total-parts, total-end)
 
   pub different-back : differentTotal (answer s) ≡ different (listOf (sheetParts s))
   unfolding differentTotal
-  different-back = simp (answer-is, total-head, append-assoc, total-parts) (unfold totalIn commandsAfter operandCount first totalBytes in refl)
+  different-back = simp (answer-is, total-head, total-parts, different-end)
 
   -- "Term 3 is read off bytes"
   pub longest-in : {n : ℕ} → MonicFactors n (sheetParts s)

@@ -14,7 +14,7 @@ use Rattle.specification.specs.Polynomials.{Poly, degree, lower}
 use Rattle.specification.specs.Parts.{Verdict, basic, solid, power, split, Factor, Part}
 use Rattle.specification.specs.Totals.{listOf}
 use Rattle.specification.specs.Sheets.{Sheet, coefficientBytes}
-use Rattle.specification.specs.Answers.{verdictNumber, factorBytes, partBytes, totalBytes, answer}
+use Rattle.specification.specs.Answers.{verdictNumber, factorBytes, partBytes, totalBytes, endBytes, answer}
 use Rattle.specification.specs.Promises.{GoodSheet}
 use Rattle.algebra.specs.Tests.{passes}
 use Rattle.algebra.specs.TakenPrimes.{fits-byte, square-fits-byte}
@@ -32,6 +32,10 @@ unfolding coefficientBytes
 length-coefficients i [] = omega arith
 length-coefficients i (zero ∷ f) = omega (arith, length-coefficients (suc i) f)
 length-coefficients i (suc a ∷ f) = omega (arith, length-coefficients (suc i) f)
+
+length-end : (Ps : List Part) → length (endBytes Ps) ≤ 5
+unfolding endBytes totalBytes
+length-end Ps = omega arith
 
 module _ {n : ℕ} where
   -- a factor of degree e takes at most 3 + 3·e bytes, and its repeats weigh at least e
@@ -68,9 +72,7 @@ module _ {n : ℕ} where
       )
 
   answer-length : (p d : ℕ) (Ps : List Part) → All (PartShape n) Ps → length (answerBytes p d Ps) ≤ 9 + 10 * partDegrees Ps
-  unfolding totalBytes
-  answer-length p d Ps h =
-      omega (arith, length-append (flatMap partBytes Ps ++ totalBytes Ps) (0x0F ∷ []), length-append (flatMap partBytes Ps) (totalBytes Ps), length-parts Ps h)
+  answer-length p d Ps h = omega (arith, length-append (flatMap partBytes Ps) (endBytes Ps), length-parts Ps h, length-end Ps)
 
 -- ---- how large each is
 
@@ -121,14 +123,16 @@ module _ {n : ℕ} (small : n ≤ 256) where
       rw (partBytes-cons P Ps) (all-cons (omega arith) (all-cons (omega arith) (all-cons (omega arith) (all-cons (byte-verdict (P .splitting .verdict))
       (all-append (bytes-factors (P .splitting .factors) (P-is .factors) (omega (arith, P-is .degrees))) (bytes-parts Ps (all-tail h) (omega arith)))))))
 
+  bytes-end : (Ps : List Part) → All (PartShape n) Ps → Byte (partDegrees Ps) → All Byte (endBytes Ps)
+  unfolding endBytes totalBytes
+  bytes-end Ps h u =
+      let total-low = total-bound Ps h in
+      all-cons (omega arith) (all-cons (omega arith) (all-cons (omega (arith, different-bound (listOf Ps))) (all-cons (omega (arith, free-bound Ps h))
+      (all-cons (omega arith) byte-none))))
+
   answer-bytes : (p d : ℕ) (Ps : List Part) → Byte p → Byte d → All (PartShape n) Ps → Byte (partDegrees Ps) → All Byte (answerBytes p d Ps)
-  unfolding totalBytes
   answer-bytes p d Ps k l h u =
-      all-cons (omega arith) (all-cons k (all-cons (omega arith) (all-cons l
-      (all-append (all-append (bytes-parts Ps h u)
-      (all-cons (omega arith) (all-cons (omega (arith, total-bound Ps h)) (all-cons (omega (arith, different-bound (listOf Ps), total-bound Ps h))
-      (all-cons (omega (arith, free-bound Ps h)) byte-none)))))
-      (all-cons (omega arith) byte-none)))))
+      all-cons (omega arith) (all-cons k (all-cons (omega arith) (all-cons l (all-append (bytes-parts Ps h u) (bytes-end Ps h u)))))
 
 -- ---- a sheet's answer
 

@@ -62,4 +62,6 @@ count-totals-spec =
       search needs,
       search needs,
     ))  -- loop-again
-    (λ c. let turn = c .before .loop in counted-done _ _ _ (turn .inv .1) (c .loop-test .left) (turn .inv .0)))  -- returns
+    (λ c.
+    let turn = c .before .loop in
+    counted-done _ _ _ (turn .inv .1) (c .loop-test .left) (c .before .before .before .pre .1) (turn .inv .0)))  -- returns

@@ -19,14 +19,14 @@ write-lines-spec =
     let start = c .before .before .before in
     let head = headText (start .args .p) (start .args .d) in
     let parts = heldText (held (start .args .parts)) in
-    let room = room-as (lines-are (start .pre .0) (c .before .count-totals .ensures)) (start .pre .1) in
+    let room = room-as (lines-are _ _ (held (start .args .parts)) (c .before .count-totals .ensures)) (start .pre .1) in
     room-first head parts (room-first (head ++ parts) _ room))  -- write-head-requires
     (λ c κs.
     let after-head = c .before .before .before in
     let start = after-head .before .before .before .before in
     let head = headText (start .args .p) (start .args .d) in
     let parts = heldText (held (start .args .parts)) in
-    let room = room-as (lines-are (start .pre .0) (after-head .before .before .count-totals .ensures)) (start .pre .1) in
+    let room = room-as (lines-are _ _ (held (start .args .parts)) (after-head .before .before .count-totals .ensures)) (start .pre .1) in
     let below = room-next head parts (room-first (head ++ parts) _ room) (after-head .write-head .ensures) in
     (start .pre .0 .count, start .pre .0 .degrees, below))  -- write-parts-requires
     (λ c κs.
@@ -34,7 +34,7 @@ write-lines-spec =
     let after-head = after-parts .before .before .before .before in
     let start = after-head .before .before .before .before in
     let before-totals = headText (start .args .p) (start .args .d) ++ heldText (held (start .args .parts)) in
-    let room = room-as (lines-are (start .pre .0) (after-head .before .before .count-totals .ensures)) (start .pre .1) in
+    let room = room-as (lines-are _ _ (held (start .args .parts)) (after-head .before .before .count-totals .ensures)) (start .pre .1) in
     room-next before-totals _ room (wrote-more (after-head .write-head .ensures) (after-parts .write-parts .ensures)))  -- write-totals-requires
     (λ c. search needs)  -- same-length
     (λ c.
@@ -42,5 +42,5 @@ write-lines-spec =
     let after-head = after-parts .before .before .before .before in
     let counted = after-head .before .before in
     let written = wrote-more (after-head .write-head .ensures) (after-parts .write-parts .ensures) in
-    let are = lines-are (counted .before .before .pre .0) (counted .count-totals .ensures) in
+    let are = lines-are _ _ (held (counted .before .before .args .parts)) (counted .count-totals .ensures) in
     wrote-as are (wrote-more written (c .before .before .write-totals .ensures))))  -- returns
