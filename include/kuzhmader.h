@@ -27,7 +27,7 @@ extern "C" {
 /* Document 01's numbers. `kuzhmader_split` gives 0 to 8, `kuzhmader_read` gives 0, 1 and 9; 10 to 13 belong to the arithmetic. */
 enum kuzhmader_number {
     KUZHMADER_DONE = 0,
-    KUZHMADER_AREA_TOO_SHORT = 1,     /* the answer area is shorter than 384 bytes; place 0 */
+    KUZHMADER_AREA_TOO_SHORT = 1,     /* the answer area is shorter than KUZHMADER_AREA; place 0 */
     KUZHMADER_SHEET_ENDS = 2,         /* the sheet ends where a command or operand is due; the place is its length */
     KUZHMADER_NO_COMMAND = 3,         /* a byte at a command's place is not a command allowed there */
     KUZHMADER_NO_PRIME = 4,           /* the prime is not 2, 3, 5 or 7 */

@@ -1,7 +1,7 @@
 """Inputs for the built library: good sheets and answers of all kinds, damaged ones, and random bytes."""
 
 import random
-from typing import Iterator, NamedTuple
+from typing import Iterator, NamedTuple, Sequence
 
 from answers import answer_bytes
 from arithmetic import LIMIT, TAKEN_PRIMES
@@ -37,34 +37,44 @@ def some_area(source: random.Random) -> int:
     return AREA if source.randrange(50) else source.choice(AREAS)
 
 
+def headed(source: random.Random, top: int, length: int, values: Sequence[int]) -> bytes:
+    """A good prime and a degree up to the top, then random bytes over the values, fewer than the length."""
+    head = bytes([1, source.choice(TAKEN_PRIMES), 2, source.randrange(1, top + 1)])
+    return head + some_bytes(source, source.randrange(length), values)
+
+
+def picked(source: random.Random, kinds: Sequence[tuple]) -> bytes:
+    """A string of one of the kinds; each has its share of a hundred."""
+    place = source.randrange(100)
+    for share, make in kinds:
+        if place < share:
+            return make()
+        place -= share
+    raise ValueError("the shares do not add to a hundred")
+
+
 def some_sheet(source: random.Random, pool: Pools) -> bytes:
     """A string for the sheet reader: one in ten good, one in fifty near degree 32, the rest damaged and random."""
-    kind = source.randrange(100)
-    if kind < 10:
-        return source.choice(pool.sheets)
-    if kind < 12:
-        return damaged(source, source.choice(pool.full))
-    if kind < 70:
-        return damaged(source, source.choice(pool.short))
-    if kind < 80:
-        return some_bytes(source, source.randrange(20), range(256))
-    if kind < 90:
-        return some_bytes(source, source.randrange(20), COMMANDS)
-    head = bytes([1, source.choice(TAKEN_PRIMES), 2, source.randrange(1, LIMIT + 1)])
-    return head + some_bytes(source, source.randrange(20), (0, 1, 2, 3, 3, 3, 4, 15))
+    kinds = (
+        (10, lambda: source.choice(pool.sheets)),
+        (2, lambda: damaged(source, source.choice(pool.full))),
+        (58, lambda: damaged(source, source.choice(pool.short))),
+        (10, lambda: some_bytes(source, source.randrange(20), range(256))),
+        (10, lambda: some_bytes(source, source.randrange(20), COMMANDS)),
+        (10, lambda: headed(source, LIMIT, 20, (0, 1, 2, 3, 3, 3, 4, 15))),
+    )
+    return picked(source, kinds)
 
 
 def some_answer(source: random.Random, pool: Pools) -> bytes:
     """A string for the answer reader: one in ten good, most damaged, some random, some sheets."""
-    kind = source.randrange(100)
-    if kind < 10:
-        return source.choice(pool.answers)
-    if kind < 80:
-        return damaged(source, source.choice(pool.answers))
-    if kind < 90:
-        return source.choice(pool.short)
-    head = bytes([1, source.choice(TAKEN_PRIMES), 2, source.randrange(1, 9)])
-    return head + some_bytes(source, source.randrange(30), (*COMMANDS, *TELLING))
+    kinds = (
+        (10, lambda: source.choice(pool.answers)),
+        (70, lambda: damaged(source, source.choice(pool.answers))),
+        (10, lambda: source.choice(pool.short)),
+        (10, lambda: headed(source, 8, 30, (*COMMANDS, *TELLING))),
+    )
+    return picked(source, kinds)
 
 
 def calls(source: random.Random, count: int) -> Iterator[tuple]:

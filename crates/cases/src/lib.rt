@@ -1,20 +1,24 @@
 // What the test programs share: a line that grows and is printed, records read from bytes, and areas that show what a call changed. It is
 // no part of the library, and nothing is promised of it: what a program prints is compared with what the reference printed.
-ghost use mathlib.Core.Path.{_≡_};
-ghost use lib.ListN.{length};
 use libc::STDOUT_FILENO;
 use polynomial::Poly;
 
+// The length of the arrays of which a call is lent a part: its input, and its answer area.
+pub const AREA: usize = 1024;
+
+// The most bytes that a line holds.
+const LINE: usize = 1024;
+
 // A line that grows; what does not fit is left out, and the comparison shows it.
 pub struct Line {
-    pub bytes: [u8; 1024],
+    pub bytes: [u8; LINE],
     pub len: usize,
 }
 
 impl Line {
     pub fn empty() -> Line {
         Line {
-            bytes: [0u8; 1024],
+            bytes: [0u8; LINE],
             len: 0,
         }
     }
@@ -22,7 +26,7 @@ impl Line {
     pub fn byte(self, b: u8) -> Line {
         let at = self.len;
         let mut bytes = self.bytes;
-        if at < 1024 {
+        if at < LINE {
             bytes[at] = b;
             Line {
                 bytes: bytes,
@@ -82,13 +86,13 @@ impl Line {
     }
 
     // A blank and the first bytes of an area in hexadecimal, if there are any.
-    fn written(self, area: [u8; 1024], count: usize) -> Line {
+    fn written(self, area: [u8; AREA], count: usize) -> Line {
         if count == 0 {
             return self;
         }
         let mut line = self.byte(32);
         let mut i: usize = 0;
-        while i < 384 {
+        while i < AREA {
             if i < count {
                 let longer = line.hex(area[i]);
                 line = longer;
@@ -147,12 +151,10 @@ fn paint(place: usize) -> u8 {
 }
 
 // An area before a call.
-pub fn fresh_area() -> [u8; 1024]
-    ensures { λ r. ⌜ 1024 ≡ length r ⌝ }
-{
-    let mut area = [0u8; 1024];
+pub fn fresh_area() -> [u8; AREA] {
+    let mut area = [0u8; AREA];
     let mut i: usize = 0;
-    while i < 1024 {
+    while i < AREA {
         area[i] = paint(i);
         i += 1;
     }
@@ -160,9 +162,9 @@ pub fn fresh_area() -> [u8; 1024]
 }
 
 // Whether every byte from the count on is what it was before the call.
-fn kept(area: [u8; 1024], count: usize) -> bool {
+fn kept(area: [u8; AREA], count: usize) -> bool {
     let mut i: usize = 0;
-    while i < 1024 {
+    while i < AREA {
         if count <= i {
             if area[i] != paint(i) {
                 return false;
@@ -174,7 +176,7 @@ fn kept(area: [u8; 1024], count: usize) -> bool {
 }
 
 // The line of a call: number, place, count, the bytes written, and the word `changed` if a byte past them is not what it was.
-pub fn print_call(number: u8, place: usize, count: usize, area: [u8; 1024]) {
+pub fn print_call(number: u8, place: usize, count: usize, area: [u8; AREA]) {
     Line::empty()
         .outcome(number, place)
         .next(small(count))

@@ -1,5 +1,5 @@
 -- What is printed for the bytes of the program's input, in the two cases of their reading.
--- Proves that 2,048 bytes are room for it, and that what follows the first 102 bytes of an input changes nothing. Assumes nothing.
+-- Proves that `textRoom` is room for it, and that what follows the first 102 bytes of an input changes nothing. Assumes nothing.
 use mathlib.Core.Path.{_≡_, refl, sym, _∙_, ap, subst}
 use mathlib.Core.List.{List, _++_}
 use Prim.Native.Nat.{ℕ, suc, _<_}
@@ -11,7 +11,7 @@ use Rattle.specification.specs.Text.{answerText, refusalText, printed}
 use Rattle.specification.specs.Promises.{sheetLimit}
 use Rattle.theorems.specs.SheetsRead.{read-is-good}
 use Rattle.theorems.specs.SheetLength.{fault-number, fault-place, first-bytes-decide}
-use Rattle.lines.specs.TextSize.{Sized, answer-sized, refusal-sized}
+use Rattle.lines.specs.TextSize.{textRoom, Sized, answer-sized, refusal-sized}
 
 abbrev textOf : Reading → List ℕ
 textOf (accepted s) = answerText s
@@ -31,11 +31,10 @@ printed-accepted bytes e = printed-is bytes ∙ ap textOf e
 pub printed-refused : (bytes : List ℕ) {k at : ℕ} → readSheet bytes ≡ fault k at → printed bytes ≡ refusalText k at
 printed-refused bytes e = printed-is bytes ∙ ap textOf e
 
--- 2,048 bytes are room for any text
-pub printed-sized : (bytes : List ℕ) → Sized 2048 (printed bytes)
-printed-sized bytes = subst (Sized 2048) (sym (printed-is bytes)) (go (readSheet bytes) refl)
+pub printed-sized : (bytes : List ℕ) → Sized textRoom (printed bytes)
+printed-sized bytes = subst (Sized textRoom) (sym (printed-is bytes)) (go (readSheet bytes) refl)
   where
-    go : (r : Reading) → readSheet bytes ≡ r → Sized 2048 (textOf r)
+    go : (r : Reading) → readSheet bytes ≡ r → Sized textRoom (textOf r)
     go (accepted s) e = answer-sized s (read-is-good bytes s e)
     go (fault k at) e = refusal-sized k at (omega (arith, fault-number bytes k at e)) (omega (arith, fault-place bytes k at e))
 

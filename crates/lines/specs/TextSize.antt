@@ -1,5 +1,5 @@
 -- How long texts are: `Sized k bytes`, at most k bytes, each below 256.
--- Proves that the lines for a good sheet are at most 54 bytes and 38 for each degree, and with them that 2,048 bytes are room for any text.
+-- Proves that the lines for a good sheet are at most 54 bytes and 38 for each degree, and with them that `textRoom` is room for any text.
 -- Assumes nothing.
 use mathlib.Core.Path.{_≡_, refl, subst}
 use mathlib.Core.Bool.{true}
@@ -42,6 +42,10 @@ use Rattle.theorems.specs.Term3.{shapes, parts-degrees}
 use Rattle.pieces.specs.Shifting.{all-entries}
 use Rattle.writing.specs.Area.{Room}
 use Rattle.lines.specs.Decimal.{length-decimal, bytes-decimal}
+
+-- room for any text
+abbrev pub textRoom : ℕ
+textRoom = 2048
 
 pub record Sized (k : ℕ) (bytes : List ℕ) : Type 0 where
   pub short : length bytes ≤ k
@@ -136,7 +140,7 @@ module _ {n : ℕ} (small : n ≤ 256) where
 
 -- ---- the texts
 
-pub answer-sized : (s : Sheet) → GoodSheet s → Sized 2048 (answerText s)
+pub answer-sized : (s : Sheet) → GoodSheet s → Sized textRoom (answerText s)
 unfolding answerText
 answer-sized s g =
     let p : ℕ = s .prime in
@@ -145,7 +149,7 @@ answer-sized s g =
     let low : partDegrees (sheetParts s) ≤ degreeLimit = omega (arith, parts-degrees s g, g .fits) in
     sized-within (omega arith) (sized-parts (square-fits-byte p t) p (degree (s .poly)) (sheetParts s) prime (omega (arith, g .fits)) (shapes s g) low)
 
-pub refusal-sized : (k at : ℕ) → k ≤ 8 → at ≤ sheetLimit → Sized 2048 (refusalText k at)
+pub refusal-sized : (k at : ℕ) → k ≤ 8 → at ≤ sheetLimit → Sized textRoom (refusalText k at)
 unfolding refusalText all
 refusal-sized k at l u =
     sized-within (omega arith)

@@ -2,10 +2,10 @@
 // `write_text` is public for the program, and no entry point of the library.
 ghost use mathlib.Core.Path.{_≡_};
 ghost use mathlib.Core.List.{_++_, flatMap};
-ghost use Prim.Native.Nat.{_≤_};
+ghost use Prim.Native.Nat.{_≤_, _<_};
 ghost use lib.ListN.{length, take};
 ghost use Rattle.specification.specs.Sheets.{sheetOf};
-ghost use Rattle.specification.specs.Promises.{GoodSheet};
+ghost use Rattle.specification.specs.Promises.{GoodSheet, sheetLimit};
 ghost use Rattle.specification.specs.Text as text;
 ghost use Rattle.factorisation.specs.Members.{All};
 ghost use Rattle.factors.specs.Cut.{Monics};
@@ -15,18 +15,33 @@ ghost use Rattle.pieces.specs.Views.{held};
 ghost use Rattle.writing.specs.Area.{Wrote, Room};
 ghost use Rattle.answers.specs.Writable.{DegreesFit, heldParts, Writable};
 ghost use Rattle.lines.specs.Layout.{heldText};
+ghost use Rattle.lines.specs.TextSize.{textRoom};
 use answers::Totals;
 use answers::count_totals;
 use answers::is_split;
 use pieces::Parts;
+use polynomial::Poly;
 use sheets::read_sheet;
 use verdicts::Factor;
 use verdicts::Part;
 use verdicts::Verdict;
 use writing::put;
 
+// Room for any text (`printed-sized`).
+pub const TEXT: usize = 2048;
+
+// One byte more than the longest sheet has.
+const INPUT: usize = 6 + 3 * Poly::LIMIT;
+
 // The end of a line.
 const LINE_FEED: u8 = 10;
+
+// For the program's input: what there is no place for changes nothing (`printed-prefix`).
+pub fn input() -> [u8; INPUT]
+    ensures { λ r. ⌜ sheetLimit < length r ⌝ }
+{
+    [0u8; INPUT]
+}
 
 // A word, with the spaces around it.
 fn write_word(out: &mut [u8], at: usize, word: &[u8]) -> usize
@@ -198,7 +213,7 @@ fn write_lines(out: &mut [u8], p: u8, d: usize, parts: Parts) -> usize
 
 // The lines for the sheet of p and f, which is of degree d.
 fn answer_text(out: &mut [u8], p: u8, d: usize, f: [u16; 33]) -> usize
-    requires { ⌜ Monics p f d × GoodSheet (sheetOf p (listed d f)) × (2048 ≤ length (now out)) ⌝ }
+    requires { ⌜ Monics p f d × GoodSheet (sheetOf p (listed d f)) × (textRoom ≤ length (now out)) ⌝ }
     ensures { λ r. ⌜ Wrote (now (out .entry)) (now (out .exit)) 0 (text.answerText (sheetOf p (listed d f))) r ⌝ }
 {
     let parts = parts::split(f, d, p as u16);
@@ -216,7 +231,7 @@ fn refusal_text(out: &mut [u8], number: u8, place: usize) -> usize
 
 // The text for any bytes, a sheet or not, from the start of the area on.
 pub fn write_text(out: &mut [u8], sheet: &[u8]) -> usize
-    requires { ⌜ 2048 ≤ length (now out) ⌝ }
+    requires { ⌜ textRoom ≤ length (now out) ⌝ }
     ensures { λ r. ⌜ Wrote (now (out .entry)) (now (out .exit)) 0 (text.printed (now (sheet .entry))) r ⌝ }
 {
     let s = read_sheet(sheet);

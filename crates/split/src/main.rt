@@ -5,10 +5,9 @@ use libc::STDOUT_FILENO;
 
 fn main() {
     // The first 102 bytes decide (lines, `printed-prefix`), so a longer input need not be read to its end.
-    let mut sheet = [0u8; 128];
+    let mut sheet = lines::input();
     let got = io::read_full(STDIN_FILENO, &mut sheet);
-    // Room for any text (lines, `printed-sized`).
-    let mut text = [0u8; 2048];
+    let mut text = [0u8; lines::TEXT];
     let count = lines::write_text(&mut text, &sheet[0..got]);
     io::write_all(STDOUT_FILENO, &text[0..count]);
 }

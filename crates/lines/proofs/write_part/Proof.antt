@@ -47,14 +47,17 @@ write-part-spec =
     let after-word = c .before .before .before in
     let after-items = after-word .before .before .before .before .before in
     let told = after-items .before .before .before .before in
-    let written = wrote-more (after-items .write-items .ensures) (wrote-as (told .verdict-word .ensures) (after-word .write-word .ensures)) in
+    let verdict = wrote-as (told .verdict-word .ensures) (after-word .write-word .ensures) in
+    let written = wrote-more {bytes = items x} (after-items .write-items .ensures) verdict in
     (start .pre .0 .first, start .pre .0 .second, room-next (items x ++ word x) (factors x) room written))  -- write-factors-requires
     (λ c. search needs)  -- same-length
     (λ c.
     let after-word = c .before .before .before .before .before .before in
     let start = after-word .before .before .before .before .before .before .before .before .before .before .before .before .before in
-    let is = part-is (start .args .part) (search needs) (start .pre .0 .base) in
+    let x = start .args .part in
+    let is = part-is x (search needs) (start .pre .0 .base) in
     let after-items = after-word .before .before .before .before .before in
     let told = after-items .before .before .before .before in
-    let written = wrote-more (after-items .write-items .ensures) (wrote-as (told .verdict-word .ensures) (after-word .write-word .ensures)) in
+    let verdict = wrote-as (told .verdict-word .ensures) (after-word .write-word .ensures) in
+    let written = wrote-more {bytes = items x} (after-items .write-items .ensures) verdict in
     wrote-as is (wrote-more written (c .before .before .write-factors .ensures))))  -- returns

@@ -38,10 +38,12 @@ write-totals-spec =
     let after-items = after-free .before .before .before .before .before in
     let start = after-items .before .before .before .before .before in
     let t = start .args .t in
-    let written = wrote-more (after-items .write-items .ensures) (after-free .write-item .ensures) in
+    let written = wrote-more {bytes = items t} (after-items .write-items .ensures) (after-free .write-item .ensures) in
     omega (arith, room-next (items t ++ free t) (ascii "\n") (start .pre) written .fits))  -- put-requires
     (λ c. search needs)  -- same-length
     (λ c.
     let after-free = c .before .before .before .before .before .before in
-    let written = wrote-more (after-free .before .before .before .before .before .write-items .ensures) (after-free .write-item .ensures) in
-    wrote-more written (c .before .before .put .ensures)))  -- returns
+    let after-items = after-free .before .before .before .before .before in
+    let t = after-items .before .before .before .before .before .args .t in
+    let written = wrote-more {bytes = items t} (after-items .write-items .ensures) (after-free .write-item .ensures) in
+    wrote-more {bytes = items t ++ free t} written (c .before .before .put .ensures)))  -- returns

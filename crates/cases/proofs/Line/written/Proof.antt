@@ -6,10 +6,10 @@ use Rattle.cases.proofs.Line.written.Statement.{statement}
 use Rattle.cases.proofs.Line.written.Tie as tie
 
 abbrev Inv-loop : tie.InvT-loop
-Inv-loop count area line₀ i₀ line i = i ≤ 384
+Inv-loop count area line₀ i₀ line i = i ≤ 1024
 
 abbrev μ-loop : tie.MeasureT-loop
-μ-loop count area line₀ i₀ line i = 384 - i
+μ-loop count area line₀ i₀ line i = 1024 - i
 
 pub written-spec : {M : Type 1} → statement M
 written-spec =
