@@ -15,7 +15,7 @@ module _ {R : Type 0} {𝓡 : CommRing R} where
   pub shift-zero : (a : Poly 𝓡) → x^ 0 · a ≡ a
   shift-zero a = ap (λ b. b · a) (pow-zero (PolyRing 𝓡) x) ∙ one-mul (PolyRing 𝓡) a
 
-  shift-suc : (k : ℕ) (a : Poly 𝓡) → x^ (suc k) · a ≡ x · (x^ k · a)
+  pub shift-suc : (k : ℕ) (a : Poly 𝓡) → x^ (suc k) · a ≡ x · (x^ k · a)
   shift-suc k a = ap (λ b. b · a) (pow-suc (PolyRing 𝓡) x k) ∙ mul-assoc (PolyRing 𝓡) x (x^ k) a
 
   pub coef-shift-below : (k : ℕ) (a : Poly 𝓡) (j : ℕ) → j < k → (x^ k · a) .coef j ≡ 𝓡 .𝟘

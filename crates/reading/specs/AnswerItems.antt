@@ -2,7 +2,7 @@
 -- Proves that the answer's bytes are theirs, that the factors fit, that their degrees add up to the degree of f, and that they multiply to f.
 -- Assumes nothing.
 use mathlib.Core.Path.{_≡_, refl, sym, _∙_, ap, ap₂, subst}
-use mathlib.Core.List.{List, [], _∷_, _++_, map, flatMap, append-assoc}
+use mathlib.Core.List.{List, [], _∷_, _++_, map, flatMap}
 use mathlib.Core.List.{List·Memᴰ·head as here}
 use Prim.Native.Nat.{ℕ, _≤_, _<_, _*_ as _*ℕ_}
 use native.Mathlib.Nat.{mul-le-mul-left}
