@@ -14,7 +14,7 @@ use Rattle.algebra.specs.Degree.{Below, Monic, below-zero}
 use Rattle.algebra.specs.Fields.{Prime, prime-pos}
 use Rattle.algebra.specs.CoefficientLists.{ℤ[x]/, poly, Reduced}
 use Rattle.frobenius.specs.LinearMaps.{apply}
-use Rattle.frobenius.specs.Reduction.{Between, Stage, Reducing, reducing-none}
+use Rattle.frobenius.specs.RowReduction.{Between, Stage, Reducing, reducing-none}
 use Rattle.frobenius.specs.LeastDependency.{LeastDependency, stage-found}
 use Rattle.modular.specs.Coefficients.{Size, below-size}
 use Rattle.modular.specs.Arrays.{size-small}

@@ -13,7 +13,7 @@ use Rattle.algebra.specs.Degree.{Below}
 use Rattle.algebra.specs.Division.{below-top}
 use Rattle.algebra.specs.CoefficientLists.{ℤ[x]/, poly, Reduced, coef-poly}
 use Rattle.frobenius.specs.Span.{less}
-use Rattle.frobenius.specs.Reduction.{Stage, Reducing, reducing-more, reducing-down}
+use Rattle.frobenius.specs.RowReduction.{Stage, Reducing, reducing-more, reducing-down}
 use Rattle.modular.specs.Coefficients.{Represents, Size, below-size}
 use Rattle.modular.specs.Multiples.{multiple-taken-off}
 use Rattle.modular.specs.Arrays.{size-small}

@@ -14,7 +14,7 @@ use Rattle.algebra.specs.Fields.{residue-nontrivial}
 use Rattle.algebra.specs.CoefficientLists.{ℤ[x]/, poly, Reduced, poly-nil, coef-poly}
 use Rattle.algebra.specs.ListDivision.{poly-zeros}
 use Rattle.frobenius.specs.Span.{Slot}
-use Rattle.frobenius.specs.Reduction.{Stage, stage-none}
+use Rattle.frobenius.specs.RowReduction.{Stage, stage-none}
 use Rattle.modular.specs.Coefficients.{zeros}
 use Rattle.modular.specs.Arrays.{zero-above}
 use Rattle.dependency.specs.declared.Row.{Row}

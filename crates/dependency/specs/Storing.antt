@@ -13,7 +13,7 @@ use Rattle.algebra.specs.Polynomials.{_·_, 𝟎, constant}
 use Rattle.algebra.specs.Degree.{Below}
 use Rattle.algebra.specs.Fields.{Prime, residue-field}
 use Rattle.algebra.specs.CoefficientLists.{ℤ[x]/, poly, Reduced, coef-poly}
-use Rattle.frobenius.specs.Reduction.{Stage, Reducing}
+use Rattle.frobenius.specs.RowReduction.{Stage, Reducing}
 use Rattle.frobenius.specs.LeastDependency.{stage-more}
 use Rattle.modular.specs.Coefficients.{Represents}
 use Rattle.modular.specs.Inverse.{residue-inverse}

@@ -1,12 +1,12 @@
 -- The class of g in a list of factors: the members whose bar is divisible by that of g, a prime element.
--- Proves, of a list L with product P·C, where P = g^m + π·h and the bar of C is coprime to that of g: at most m members are in the
--- class (Aa); of k + 1 members in the class, G^k divides the bar of h (Ab); so at most s are in the class (A). Assumes nothing.
+-- Proves, of a list L with product P·C, where P = g^m + π·h and the bar of C is coprime to the bar G of g: at most m members are in the
+-- class (Aa); where k + 1 are, G^k divides the bar of h (Ab); so at most s are (A). Assumes nothing.
 use mathlib.Core.Path.{_≡_, refl, sym, _∙_, ap, ap₂}
-use mathlib.Core.Logic.{_⊎_, inl, inr}
+use mathlib.Core.Logic.{_⊎_, inl, inr, ⊎-elim}
 use mathlib.Core.List.{List, [], _∷_}
 use Prim.Native.Nat.{ℕ, zero, suc, _≤_}
 use native.Mathlib.Omega.{arith}
-use native.Mathlib.Decide.{decLe}
+use Rattle.algebra.specs.Numbers.{lt-or-le}
 use Rattle.algebra.specs.Ring.{CommRing, linear1, zero-mul}
 use Rattle.algebra.specs.Identities.{con, _⊕_, _⊖_, _⊗_, _≈_, solve}
 use Rattle.algebra.specs.Divisibility.{
@@ -175,8 +175,5 @@ module _ {A B : Type 0} {𝓐 : CommRing A} {𝓑 : CommRing B} {bar : A → B} 
       where
         go : (t : ℕ) → class-size L ≡ t → t ≤ s
         go zero e = omega arith
-        go (suc k) e = bound (decLe (suc k) s)
-          where
-            bound : Dec (suc k ≤ s) → suc k ≤ s
-            bound (yes l) = l
-            bound (no l) = absurd (n (divides-trans 𝓑 (pow-divides 𝓑 (bar g) (omega arith)) (class-deep k e)))
+        go (suc k) e =
+            ⊎-elim (λ l. l) (λ l. absurd (n (divides-trans 𝓑 (pow-divides 𝓑 (bar g) l) (class-deep k e)))) (lt-or-le k s)

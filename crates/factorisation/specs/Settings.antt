@@ -1,13 +1,13 @@
 -- Settings of one part: its longest lists, the member of highest multiplicity last.
 -- Proves that all members but the last have the bar G; LastMember has what they leave of the part. Assumes nothing.
 use mathlib.Core.Path.{_≡_, refl, sym, _∙_, ap}
-use mathlib.Core.Logic.{_⊎_, inl, inr}
+use mathlib.Core.Logic.{_⊎_, inl, inr, ⊎-elim}
 use mathlib.Core.List.{List, [], _∷_}
 use mathlib.Core.List.{List·Memᴰ·head as here, List·Memᴰ·tail as there}
 use lib.ListN.{length}
 use Prim.Native.Nat.{ℕ, suc, _≤_, _-_, _+_ as _+ℕ_}
 use native.Mathlib.Omega.{arith}
-use native.Mathlib.Decide.{decLe}
+use Rattle.algebra.specs.Numbers.{lt-or-le}
 use Rattle.algebra.specs.Ring.{CommRing, linear3, zero-mul, add-left-cancel}
 use Rattle.algebra.specs.Identities.{con, _⊕_, _⊖_, _⊗_, _≈_, solve}
 use Rattle.algebra.specs.Divisibility.{
@@ -130,11 +130,8 @@ module _ {A B : Type 0} {𝓐 : CommRing A} {𝓑 : CommRing B} {bar : A → B} 
         go (inr n) = n (rw same (divides-trans 𝓑 (pow-divides 𝓑 (bar g) (omega (arith, sum, sr))) (f .divides)))
 
     last-large : suc r ≤ e y
-    last-large = go (decLe (suc r) (e y))
-      where
-        go : Dec (suc r ≤ e y) → suc r ≤ e y
-        go (yes t) = t
-        go (no n) = absurd (large (all-cons (omega arith) (λ x i. omega (arith, l .order x i))))
+    last-large =
+        ⊎-elim (λ t. t) (λ t. absurd (large (all-cons t (λ x i. omega (arith, t, l .order x i))))) (lt-or-le r (e y))
 
     ones : (x : A) → x ∈ xs → 1 ≤ e x
     ones x i = positive x (there i)

@@ -29,7 +29,7 @@ use Rattle.algebra.specs.Division.{below-top}
 use Rattle.algebra.specs.Fields.{Field}
 use Rattle.frobenius.specs.LinearMaps.{apply, apply-multiple, apply-sub-multiple, apply-monomial}
 use Rattle.frobenius.specs.Span.{less, coef-less, Span, Slot, Clear, span-𝟎, span-add, span-multiple, span-row, span-clear, span-insert}
-use Rattle.frobenius.specs.Reduction.{Between, Stage, Reducing}
+use Rattle.frobenius.specs.RowReduction.{Between, Stage, Reducing}
 
 module _ {R : Type 0} {𝓡 : CommRing R} (t : ℕ → Poly 𝓡) (m o : ℕ) where
   -- w is monic of degree i and goes to 𝟎, and nothing of lower degree does, but 𝟎

@@ -4,7 +4,7 @@ pub mod Frobenius
 pub mod FrobeniusPowers
 pub mod Roots
 pub mod Span
-pub mod Reduction
+pub mod RowReduction
 pub mod LeastDependency
 pub mod DifferenceProducts
 pub mod SplittingElements

@@ -11,7 +11,7 @@ use Rattle.algebra.specs.Fields.{Prime, residue-field}
 use Rattle.factorisation.specs.MonicDivisors.{monic-nonzero}
 use Rattle.frobenius.specs.LinearMaps.{apply, Remainders, kernel-divides, divides-kernel}
 use Rattle.frobenius.specs.FrobeniusPowers.{differenceImages, difference-images}
-use Rattle.frobenius.specs.Reduction.{Between}
+use Rattle.frobenius.specs.RowReduction.{Between}
 use Rattle.frobenius.specs.LeastDependency.{LeastDependency}
 use Rattle.frobenius.specs.SplittingElements.{SplittingElement}
 use Rattle.frobenius.specs.Unsplit.{Unsplit}

@@ -1,5 +1,5 @@
 -- The clauses of the specification's reader as equations: the state that a byte leads to, or its number.
--- Each state has a lemma for the bytes that are taken there, and one, named `-wrong`, for the others. Assumes nothing.
+-- Each state but the last has a lemma for the bytes that are taken there, and one, named `-wrong`, for the others. Assumes nothing.
 use mathlib.Core.Path.{_≡_, refl}
 use mathlib.Core.Logic.{_⊎_, inl, inr}
 use mathlib.Core.Bool.{true, false, cond, and-false}

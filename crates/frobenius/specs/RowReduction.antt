@@ -1,6 +1,7 @@
 -- Reduction by rows that are images of a linear map: the invariant `Stage` of the rows, and `Reducing` of the reduction of the image of x^i by them,
 -- which goes from the highest slot down and does to a preimage what it does to the image.
--- Proves that both hold at the start, and that a step of the reduction keeps the latter. Assumes nothing.
+-- Proves that both hold at the start, and that the latter stays where a slot is gone through, or slots at which no term is left are left out.
+-- Assumes nothing.
 use mathlib.Core.Path.{_≡_, sym, _∙_, ap, ap₂}
 use mathlib.Core.Logic.{_⊎_, inl, inr, ⊎-elim}
 use Prim.Native.Nat.{ℕ, suc, _<_, _≤_}
