@@ -4,14 +4,13 @@ use mathlib.Core.Path.{_≡_, sym, _∙_, ap, ap₂, subst}
 use mathlib.Core.List.{List, [], _∷_, map, Memᴰ·map, Memᴰ·of-map, Memᴰ·cast}
 use mathlib.Core.Logic.{_≢_}
 use Prim.Native.Nat.{ℕ, _≤_, _<_}
-use native.Mathlib.Omega.{arith}
 use Rattle.specification.specs.Polynomials as spec
 use Rattle.specification.specs.Powers.{Power}
 use Rattle.specification.specs.Claims as claims
 use Rattle.algebra.specs.Divisibility.{product-nil, product-cons}
 use Rattle.algebra.specs.Residues.{Residues}
 use Rattle.algebra.specs.Polynomials.{PolyRing, _·_}
-use Rattle.algebra.specs.Fields.{Prime, residue-field}
+use Rattle.algebra.specs.Fields.{Prime, prime-pos, residue-field}
 use Rattle.algebra.specs.CoefficientLists.{ℤ[x]/, poly, poly-mul, poly-pow, poly-one}
 use Rattle.factorisation.specs.Members.{_∈_, all-map}
 use Rattle.factorisation.specs.InOrder.{StrictOrder, InOrder, in-order-by, in-order-map, in-order-unique}
@@ -45,7 +44,7 @@ module _ (p : ℕ) (prime : Prime p) where
   pair P = (poly p (P .base), P .exponent)
 
   same-base : {G H : spec.Poly} → claims.Monic p G → claims.Monic p H → poly p G ≡ poly p H → G ≡ H
-  same-base m n e = monic-equal large (from-claims (omega (arith, large)) m) (from-claims (omega (arith, large)) n) e
+  same-base m n e = monic-equal large (from-claims (prime-pos prime) m) (from-claims (prime-pos prime) n) e
 
   pub different-bases : {G H : spec.Poly} → claims.Monic p G → claims.Monic p H → claims.Before G H → poly p G ≢ poly p H
   different-bases {G} {H} m n b e = item-3 .irreflexive {a = G} (subst (claims.Before G) (sym (same-base m n e)) b)
@@ -54,8 +53,8 @@ module _ (p : ℕ) (prime : Prime p) where
   unfolding spec.product
   poly-powers [] = poly-one p ∙ sym (product-nil (PolyRing (Residues p)))
   poly-powers (P ∷ Ps) =
-      poly-mul p (omega (arith, large)) (claims.powerOf p P) (spec.product p (map (claims.powerOf p) Ps))
-      ∙ ap₂ _·_ (poly-pow p (omega (arith, large)) (P .base) (P .exponent)) (poly-powers Ps)
+      poly-mul p (prime-pos prime) (claims.powerOf p P) (spec.product p (map (claims.powerOf p) Ps))
+      ∙ ap₂ _·_ (poly-pow p (prime-pos prime) (P .base) (P .exponent)) (poly-powers Ps)
       ∙ sym (product-cons (PolyRing (Residues p)) _ _)
 
   pub as-powers-of : {f : spec.Poly} {Ps : List Power} → claims.PowersOf p f Ps → PowersOf (poly p f) (map pair Ps)

@@ -16,7 +16,7 @@ use Rattle.algebra.specs.Residues.{ℤ/, residue, Residues, residue-one, value-
 use Rattle.algebra.specs.Polynomials.{PolyRing, _·_}
 use Rattle.algebra.specs.Degree.{Monic}
 use Rattle.algebra.specs.Extension.{residue-lift}
-use Rattle.algebra.specs.Fields.{Prime, residue-field, residue-discrete, residue-nontrivial}
+use Rattle.algebra.specs.Fields.{Prime, prime-pos, residue-field, residue-discrete, residue-nontrivial}
 use Rattle.algebra.specs.Homomorphisms.{monic-map}
 use Rattle.algebra.specs.CoefficientLists.{ℤ[x]/, poly, poly-pow, poly-reduce, poly-product, same-list}
 use Rattle.algebra.specs.ListShapes.{length-reduce, low-reduce}
@@ -44,12 +44,12 @@ module _ (p : ℕ) (prime : Prime p) {d : ℕ} {f : spec.Poly} (mf : MonicList (
   F = poly (p *ℕ p) f
 
   bar-powers : PowersOf (barred p large F) (map (pair p prime) Ps)
-  bar-powers = rw (bar-poly p large f, ← poly-reduce p (omega (arith, large)) f) (as-powers-of p prime items)
+  bar-powers = rw (bar-poly p large f, ← poly-reduce p (prime-pos prime) f) (as-powers-of p prime items)
 
   lift-one : (coefficients p large) .lift ((Residues p) .𝟙) ≡ (Residues (p *ℕ p)) .𝟙
   lift-one =
       residue-lift p (omega (arith, large)) ((Residues p) .𝟙)
-      ∙ ap (residue (p *ℕ p)) (ap (λ (c : ℤ/ p). c .value) (sym (residue-one p)) ∙ value-residue p (omega (arith, large)) 1 ∙ mod-eq-of-lt large)
+      ∙ ap (residue (p *ℕ p)) (ap (λ (c : ℤ/ p). c .value) (sym (residue-one p)) ∙ value-residue p (prime-pos prime) 1 ∙ mod-eq-of-lt large)
       ∙ residue-one (p *ℕ p)
 
   -- the parts over ℤ/p²
@@ -64,7 +64,7 @@ module _ (p : ℕ) (prime : Prime p) {d : ℕ} {f : spec.Poly} (mf : MonicList (
   module _ (P : Power) (i : P ∈ Ps) where
     -- G, and the degree of G^m
     mG : MonicList p (spec.degree (P .base)) (P .base)
-    mG = from-claims (omega (arith, large)) (items .irreducible P i .monic)
+    mG = from-claims (prime-pos prime) (items .irreducible P i .monic)
 
     abbrev pub D : ℕ
     D = P .exponent *ℕ spec.degree (P .base)
@@ -83,21 +83,21 @@ module _ (p : ℕ) (prime : Prime p) {d : ℕ} {f : spec.Poly} (mf : MonicList (
 
     bar-power : (q : spec.Poly) → spec.reduce p q ≡ claims.powerOf p P → barred p large (poly (p *ℕ p) q) ≡ power (pair p prime P)
     bar-power q e =
-        bar-poly p large q ∙ sym (poly-reduce p (omega (arith, large)) q) ∙ ap (poly p) e
-        ∙ poly-pow p (omega (arith, large)) (P .base) (P .exponent)
+        bar-poly p large q ∙ sym (poly-reduce p (prime-pos prime) q) ∙ ap (poly p) e
+        ∙ poly-pow p (prime-pos prime) (P .base) (P .exponent)
 
     monic-power : Monic D (power (pair p prime P))
-    monic-power = rw (← poly-pow p (omega (arith, large)) (P .base) (P .exponent)) (monic-poly mPower)
+    monic-power = rw (← poly-pow p (prime-pos prime) (P .base) (P .exponent)) (monic-poly mPower)
 
     -- a polynomial with that bar, as a list
     part-list : (X : ℤ[x]/ (p *ℕ p)) → Monic D X → barred p large X ≡ power (pair p prime P) → _∣_ (PolyRing (Residues (p *ℕ p))) X F → IsPart (list (suc D) X)
     part-list X mX e v = record {
       monic = mq;
       bar = same-list
-          (record { len = length-reduce p (list (suc D) X) ∙ mq .reduced .len; low = low-reduce p (omega (arith, large)) (list (suc D) X) })
+          (record { len = length-reduce p (list (suc D) X) ∙ mq .reduced .len; low = low-reduce p (prime-pos prime) (list (suc D) X) })
           (mPower .reduced)
-          (poly-reduce p (omega (arith, large)) (list (suc D) X) ∙ sym (bar-poly p large (list (suc D) X)) ∙ ap (barred p large) back ∙ e
-          ∙ sym (poly-pow p (omega (arith, large)) (P .base) (P .exponent)));
+          (poly-reduce p (prime-pos prime) (list (suc D) X) ∙ sym (bar-poly p large (list (suc D) X)) ∙ ap (barred p large) back ∙ e
+          ∙ sym (poly-pow p (prime-pos prime) (P .base) (P .exponent)));
       divides = rw back v;
     }
       where

@@ -15,7 +15,7 @@ use Rattle.algebra.specs.Divisibility.{product}
 use Rattle.algebra.specs.Residues.{Residues}
 use Rattle.algebra.specs.Polynomials.{PolyRing, _·_}
 use Rattle.algebra.specs.Homomorphisms.{map-homomorphism}
-use Rattle.algebra.specs.Fields.{Prime}
+use Rattle.algebra.specs.Fields.{Prime, prime-pos}
 use Rattle.algebra.specs.CoefficientLists.{poly, poly-mul, poly-reduce, poly-product}
 use Rattle.factorisation.specs.Members.{_∈_, All, all-tail, all-map, member-divides}
 use Rattle.theorems.specs.MonicLists.{MonicList, from-claims}
@@ -60,9 +60,9 @@ module _ (p : ℕ) (prime : Prime p) where
   bar-product [] over = refl
   bar-product (F ∷ Fs) over =
       bar-mul (F .part) (spec.product n (map (λ F. F .part) Fs))
-      ∙ ap₂ _·_ (sym (poly-reduce p (omega (arith, prime .large)) (F .part)) ∙ ap (poly p) (over F (here refl) .bar))
+      ∙ ap₂ _·_ (sym (poly-reduce p (prime-pos prime) (F .part)) ∙ ap (poly p) (over F (here refl) .bar))
       (bar-product Fs (all-tail over))
-      ∙ sym (poly-mul p (omega (arith, prime .large)) (claims.powerOf p (F .power)) (spec.product p (map (claims.powerOf p) (map (λ F. F .power) Fs))))
+      ∙ sym (poly-mul p (prime-pos prime) (claims.powerOf p (F .power)) (spec.product p (map (claims.powerOf p) (map (λ F. F .power) Fs))))
 
   module _ {d : ℕ} {f : spec.Poly} (mf : MonicList n d f) (Fs : List Found) (over : All (FoundOver p) Fs)
       (inOrder : claims.InOrder (map (λ F. F .power) Fs)) (multiplies : spec.product n (map (λ F. F .part) Fs) ≡ f) where
@@ -76,7 +76,7 @@ module _ (p : ℕ) (prime : Prime p) where
     product-monic =
         monic-list-product (prime .large) (map (claims.powerOf p) found)
         (all-map (λ q. (e : ℕ) × MonicList p e q) (claims.powerOf p) found
-        (λ P i. (_, monic-list-pow (prime .large) (from-claims (omega (arith, prime .large)) (irreducible P i .monic)) (P .exponent))))
+        (λ P i. (_, monic-list-pow (prime .large) (from-claims (prime-pos prime) (irreducible P i .monic)) (P .exponent))))
 
     -- items 1 and 3
     powers-of : claims.PowersOf p (spec.reduce p f) found
@@ -85,7 +85,7 @@ module _ (p : ℕ) (prime : Prime p) where
       positive = all-map (λ P. 1 ≤ P .exponent) (λ F. F .power) Fs (λ F i. over F i .positive);
       inOrder = inOrder;
       multiplies = monic-equal (prime .large) (product-monic .1) (monic-reduce (prime .large) mf)
-          (sym (bar-product Fs over) ∙ ap (poly p) multiplies ∙ sym (poly-reduce p (omega (arith, prime .large)) f));
+          (sym (bar-product Fs over) ∙ ap (poly p) multiplies ∙ sym (poly-reduce p (prime-pos prime) f));
     }
 
     powers-found : found ≡ powers p f
