@@ -1,9 +1,8 @@
--- Facts on natural numbers that the kit's library lacks: that a < b or b ≤ a, remainders inside a remainder, and that p² is
--- above 1.
--- Assumes nothing.
+-- Facts on natural numbers that the kit's library lacks: that a < b or b ≤ a, remainders inside a remainder, that p² is above 1, and what k·d
+-- leaves of m·d. Assumes nothing.
 use mathlib.Core.Path.{_≡_, sym, _∙_, ap}
 use mathlib.Core.Logic.{_⊎_, inl, inr, ⊎-elim}
-use Prim.Native.Nat.{ℕ, zero, suc, _+_, _*_, _%_, _/_, _<_, _≤_, zero-le, suc-le-suc}
+use Prim.Native.Nat.{ℕ, zero, suc, _+_, _*_, _-_, _%_, _/_, _<_, _≤_, zero-le, suc-le-suc}
 use native.Mathlib.Nat.{mul-le-mul-left, mod-mod, mod-add-mod, add-mod-mod, mul-comm, add-mul-mod-self-left, mod-add-div}
 use native.Mathlib.Omega.{arith}
 
@@ -25,3 +24,8 @@ pub ruleset modulo = (mod-add-mod, add-mod-mod, mod-mul-mod, mul-mod-mod, mod-mo
 
 pub square-large : (p : ℕ) → 1 < p → 1 < p * p
 square-large p large = omega (arith, mul-le-mul-left p (let l : 1 ≤ p = omega arith in l))
+
+pub rest-multiple : {k m : ℕ} (d : ℕ) → k ≤ m → (m - k) * d + k * d ≡ m * d
+rest-multiple {k} {m} d l =
+    let s : (m - k) * d + k * d ≡ (m - k + k) * d = omega arith in
+    s ∙ ap (λ (j : ℕ). j * d) (let t : m - k + k ≡ m = omega arith in t)

@@ -12,7 +12,7 @@ use Rattle.specification.specs.Polynomials as spec
 use Rattle.specification.specs.Powers.{Power}
 use Rattle.specification.specs.Parts.{hBar, m1, w}
 use Rattle.specification.specs.Claims as claims
-use Rattle.algebra.specs.Numbers.{square-large}
+use Rattle.algebra.specs.Numbers.{square-large, rest-multiple}
 use Rattle.algebra.specs.Ring.{CommRing, linear1, zero-mul}
 use Rattle.algebra.specs.Identities.{con, _⊕_, _⊖_, _⊗_, _≈_, solve}
 use Rattle.algebra.specs.Divisibility.{_∣_, pow}
@@ -182,9 +182,7 @@ module _ {p : ℕ} (large : 1 < p) {G : spec.Poly} {m : ℕ} {part : spec.Poly} 
         less = ⊎-elim (λ e. absurd (not-all e)) (λ l. l) (eq-or-lt-of-le (top .bound))
 
         degrees : (m - k) *ℕ d +ℕ k *ℕ d ≡ m *ℕ d
-        degrees =
-            let s : (m - k) *ℕ d +ℕ k *ℕ d ≡ (m - k +ℕ k) *ℕ d = omega arith in
-            s ∙ ap (λ (j : ℕ). j *ℕ d) (let t : m - k +ℕ k ≡ m = omega (arith, less) in t)
+        degrees = rest-multiple d (top .bound)
 
         law : poly p (w p G g m part) · pow 𝓑 (poly p G) k ≡ poly p (hBar p g m part)
         law = unfold w in

@@ -11,7 +11,7 @@ use Rattle.specification.specs.Polynomials as spec
 use Rattle.specification.specs.Inverses.{inverse}
 use Rattle.specification.specs.Parts.{hBar, m1, w, u}
 use Rattle.specification.specs.Claims as claims
-use Rattle.algebra.specs.Numbers.{square-large}
+use Rattle.algebra.specs.Numbers.{square-large, rest-multiple}
 use Rattle.algebra.specs.Ring.{CommRing}
 use Rattle.algebra.specs.Residues.{Residues}
 use Rattle.algebra.specs.Polynomials.{PolyRing, _+_, _·_}
@@ -63,10 +63,8 @@ module _ {p : ℕ} (prime : Prime p) {G g : spec.Poly} {m : ℕ} {part : spec.Po
   power : MonicList p (k *ℕ d) (spec.pow p G k)
   power = monic-list-pow large (base-monic large over) k
 
-  degrees : k *ℕ d +ℕ (m - k) *ℕ d ≡ m *ℕ d
-  degrees =
-      let s : k *ℕ d +ℕ (m - k) *ℕ d ≡ (k +ℕ (m - k)) *ℕ d = omega arith in
-      s ∙ ap (λ (j : ℕ). j *ℕ d) (let t : k +ℕ (m - k) ≡ m = omega (arith, top .bound) in t)
+  degrees : (m - k) *ℕ d +ℕ k *ℕ d ≡ m *ℕ d
+  degrees = rest-multiple d (top .bound)
 
   length-w : length (w p G g m part) ≡ suc ((m - k) *ℕ d)
   unfolding w

@@ -7,6 +7,7 @@ use Prim.Native.Nat.{ℕ, _≤_, _-_, _+_ as _+ℕ_, _*_ as _*ℕ_}
 use native.Mathlib.Nat.{mul-le-mul-right}
 use native.Mathlib.Numerals.{add-one}
 use native.Mathlib.Omega.{arith}
+use Rattle.algebra.specs.Numbers.{rest-multiple}
 use Rattle.algebra.specs.Ring.{mul-one, add-zero, zero-mul}
 use Rattle.algebra.specs.Identities.{_⊗_, _≈_, solve}
 use Rattle.algebra.specs.Divisibility.{_∣_, pow, pow-zero, pow-suc}
@@ -65,9 +66,7 @@ module _ (p : ℕ) (h g : List ℕ) where
       cofactor-below {k} {w} c l = below-factor (monic-pow monic k) ((m - k) *ℕ d) (poly p w) (rw (c .law, degrees) low)
         where
           degrees : (m - k) *ℕ d +ℕ k *ℕ d ≡ m *ℕ d
-          degrees =
-              let s : (m - k) *ℕ d +ℕ k *ℕ d ≡ (m - k +ℕ k) *ℕ d = omega arith in
-              s ∙ ap (λ (j : ℕ). j *ℕ d) (let t : m - k +ℕ k ≡ m = omega arith in t)
+          degrees = rest-multiple d l
 
       -- and fewer than G in the end, so G does not divide it
       pub cofactor-last : {k : ℕ} {w : List ℕ} → poly p h ≢ 𝟎 → Cofactor p h g k w → k ≤ m → m ≤ k +ℕ 1 → HighestIn p h g k w
