@@ -5,7 +5,7 @@ use Prim.Native.Nat.{ℕ}
 use mathlib.Core.List.{List, [], _∷_, map}
 use Rattle.specification.specs.Open.{everything}
 use Rattle.specification.specs.Polynomials.{Poly}
-use Rattle.specification.specs.Parts.{Verdict, basic, solid, power, split, Factor, Splitting, Part, partsOf}
+use Rattle.specification.specs.Parts.{basic, solid, power, split, Factor, Splitting, splitInto as part, Part, partsOf}
 use Rattle.specification.specs.Totals.{freeDigits}
 
 -- a row of the table
@@ -18,10 +18,6 @@ pub record Trial : Type 0 where
 -- a row, in the order of the table's columns
 abbrev trial : ℕ → Poly → List Splitting → ℕ → Trial
 trial p f list free = record { prime = p; poly = f; list = list; free = free }
-
--- a part's verdict and factors
-abbrev part : Verdict → List Factor → Splitting
-part v qs = record { verdict = v; factors = qs }
 
 -- t times q
 abbrev factor : ℕ → Poly → Factor
