@@ -1,5 +1,6 @@
 // The base G of a power q = G^m of an irreducible polynomial modulo a prime p, where q is monic of degree d: p-th roots are taken until the
-// derivative is not 0, and the gcd with the derivative is divided off. What is public is so for the crates above, and no entry point.
+// derivative is not 0, and the gcd with the derivative is divided off. What is public is so for the crates above, and no entry point
+// of the library.
 ghost use mathlib.Core.Path.{_≡_};
 ghost use Prim.Native.Nat.{_<_, suc};
 ghost use Rattle.algebra.specs.Polynomials.{𝟎};

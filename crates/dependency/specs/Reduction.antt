@@ -1,5 +1,6 @@
--- The loop of `reduce_by_rows`: `ReducedTo p d i rows v k r`, r is what the rows leave of v so far, with an image of k terms.
--- Proves that the loop begins so and goes on so with fewer terms; `ReducedBy`, how it ends: with no terms, or at a free slot. Assumes nothing.
+-- The loop of `reduce_by_rows`: `ReducedTo p d i rows v k r`, r is what the rows leave of v so far, with an image of k terms; `ReducedBy`, how it
+-- ends: with no terms, or at a free slot.
+-- Proves that the loop begins so and goes on so with fewer terms. Assumes nothing.
 use mathlib.Core.Path.{_≡_, sym, _∙_, ap}
 use mathlib.Core.List.{List}
 use mathlib.Core.Logic.{_≢_}

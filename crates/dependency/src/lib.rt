@@ -1,5 +1,6 @@
 // The least dependency of a linear map modulo a prime p, given by the images of the x^i: the monic polynomial of least degree that goes to 0.
-// The images are brought into echelon form, each beside a polynomial that goes to it. All is public for the crates above, and no entry point.
+// The images are brought into echelon form, each beside a polynomial that goes to it. What is public is so for the crates
+// above, and no entry point of the library.
 use modular::add_multiple;
 use modular::inverse;
 use modular::multiple;
@@ -22,9 +23,9 @@ pub struct Image {
 }
 
 // An image, and a polynomial that goes to it.
-pub struct Row {
-    pub image: [u16; 33],
-    pub preimage: [u16; 33],
+struct Row {
+    image: [u16; 33],
+    preimage: [u16; 33],
 }
 
 // A dependency v of the degree given, where there is one.
@@ -35,7 +36,7 @@ pub struct Found {
 }
 
 // x^i, modulo any number.
-pub fn monomial(i: usize) -> [u16; 33]
+fn monomial(i: usize) -> [u16; 33]
     requires { ⌜ i < 33 ⌝ }
     ensures { λ r. ⌜ IsMonomial i r ⌝ }
 {
@@ -45,7 +46,7 @@ pub fn monomial(i: usize) -> [u16; 33]
 }
 
 // Free slots only.
-pub fn no_rows() -> [Row; 33]
+fn no_rows() -> [Row; 33]
     ensures { λ r. ⌜ r ≡ replicate 33 free ⌝ }
 {
     let zero = [0u16; 33];
@@ -58,7 +59,7 @@ pub fn no_rows() -> [Row; 33]
 
 // v reduced by the rows: its leading term is taken off by the row in its slot, until there is none. What is taken off the image is taken off the
 // preimage, and x^i stays its leading term.
-pub fn reduce_by_rows(rows: [Row; 33], v: Row, i: usize, d: usize, p: u16) -> Row
+fn reduce_by_rows(rows: [Row; 33], v: Row, i: usize, d: usize, p: u16) -> Row
     requires { ⌜ (1 < p) × (i ≤ 33) × (d ≤ 33) × Rows p i rows × Reduced p 33 (v .image) × Reduced p 33 (v .preimage) × Below d (poly p (v .image)) ⌝ }
     ensures { λ r. ⌜ ReducedBy p d i rows v r ⌝ }
 {
@@ -86,7 +87,7 @@ pub fn reduce_by_rows(rows: [Row; 33], v: Row, i: usize, d: usize, p: u16) -> Ro
 }
 
 // v, with an image of degree k, made monic. The preimage is of degree i.
-pub fn monic_row(v: Row, k: usize, i: usize, p: u16) -> Row
+fn monic_row(v: Row, k: usize, i: usize, p: u16) -> Row
     requires { ⌜ Prime p × (k < 33) × (i < 33) × Reduced p 33 (v .image) × (0 < getD (v .image) k 0)
         × Below (k +ℕ 1) (poly p (v .image)) × Below (i +ℕ 1) (poly p (v .preimage)) ⌝ }
     ensures { λ r. ⌜ MonicRow p v k r ⌝ }

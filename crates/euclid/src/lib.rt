@@ -1,5 +1,5 @@
 // Euclid's algorithm on polynomials over ℤ/p, p a prime, on arrays of 33 coefficients: the monic multiple, the monic gcd, and the
-// monic gcd with one cofactor. All is public for the crates above, and no entry point of the library.
+// monic gcd with one cofactor. What is public is so for the crates above, and no entry point of the library.
 ghost use Prim.Native.Nat.{_<_, _≤_};
 ghost use Rattle.algebra.specs.Degree.{Below, Monic};
 ghost use Rattle.algebra.specs.Fields.{Prime};
@@ -13,9 +13,9 @@ ghost use Rattle.euclid.specs.CommonDivisors.{GcdOf, CofactorOf};
 ghost use Rattle.euclid.specs.Remainders.{Successive, After};
 
 // unit·a, which is monic.
-pub struct MonicMultiple {
-    pub array: [u16; 33],
-    pub unit: u16,
+struct MonicMultiple {
+    array: [u16; 33],
+    unit: u16,
 }
 
 // A remainder of Euclid's algorithm for a and b: cofactor·a leaves it modulo b.
@@ -54,7 +54,7 @@ pub struct CommonDivisor {
 }
 
 // The monic multiple of a, which is not 0 and has the size s.
-pub fn monic_multiple(a: [u16; 33], s: usize, p: u16) -> MonicMultiple
+fn monic_multiple(a: [u16; 33], s: usize, p: u16) -> MonicMultiple
     requires { ⌜ Prime p × Reduced p 33 a × Size a s × (0 < s) ⌝ }
     ensures { λ r. ⌜ MonicMultipleOf p a s (r .array) (r .unit) ⌝ }
 {

@@ -12,12 +12,12 @@ use Rattle.algebra.specs.Divisibility.{Coprime}
 use Rattle.algebra.specs.Residues.{Residues}
 use Rattle.algebra.specs.Polynomials.{PolyRing, _+_, _·_}
 use Rattle.algebra.specs.Degree.{Monic}
+use Rattle.algebra.specs.TakenPrimes.{is-prime}
 use Rattle.algebra.specs.CoefficientLists.{poly, Reduced}
 use Rattle.frobenius.specs.SplittingElements.{SplittingElement}
 use Rattle.frobenius.specs.Unsplit.{Unsplit}
 use Rattle.theorems.specs.Reductions.{bar-monic}
 use Rattle.modular.specs.Coefficients.{Represents, zeros}
-use Rattle.algebra.specs.TakenPrimes.{is-prime}
 use Rattle.splitting.specs.declared.Element.{Element}
 use Rattle.splitting.specs.Elements.{Known, ForFactor}
 use Rattle.halves.specs.Splitting.{Split, HalvesOf}

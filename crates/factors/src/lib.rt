@@ -1,5 +1,5 @@
 // A monic f modulo p² cut into two factors with coprime bars, by a splitting element of its bar, if there is one.
-// All is public for the crates above, and no entry point of the library.
+// What is public is so for the crates above, and no entry point of the library.
 ghost use Rattle.algebra.specs.CoefficientLists.{poly};
 ghost use Rattle.modular.specs.Coefficients.{Represents};
 ghost use Rattle.splitting.specs.Elements.{Known};

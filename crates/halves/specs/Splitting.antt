@@ -1,5 +1,6 @@
 -- Coprime factors by a splitting element: `Split`, what is given, `HalvesOf`, what comes of it, and `CoprimeTo`, what the loop has seen of each
--- constant. Proves that a gcd of degree 1 or more splits Q, and that one of the constants has such a gcd. Assumes nothing.
+-- constant.
+-- Proves what v − c is, that a gcd of degree 1 or more splits Q, and that one of the constants has such a gcd. Assumes nothing.
 use mathlib.Core.Path.{_≡_, sym, _∙_, ap, subst}
 use mathlib.Core.List.{List, _∷_}
 use mathlib.Core.Logic.{_≢_, inl}

@@ -1,5 +1,5 @@
 // Coprime factors of Q modulo p from a splitting element v: the gcd of Q and the first v - c that has a factor in common with Q, and what
-// it leaves of Q. All is public for the crates above, and no entry point of the library.
+// it leaves of Q. What is public is so for the crates above, and no entry point of the library.
 ghost use Prim.Native.Nat.{_<_, _≤_};
 ghost use Rattle.algebra.specs.Residues.{residue};
 ghost use Rattle.algebra.specs.Polynomials.{_+_, -_, constant};
@@ -15,7 +15,7 @@ pub struct Halves {
 }
 
 // v - c.
-pub fn less_constant(v: [u16; 33], c: u16, p: u16) -> [u16; 33]
+fn less_constant(v: [u16; 33], c: u16, p: u16) -> [u16; 33]
     requires { ⌜ Reduced p 33 v × (c ≤ p) ⌝ }
     ensures { λ r. ⌜ Represents p r (poly p v + - constant (residue p c)) ⌝ }
 {

@@ -1,6 +1,6 @@
 -- The rule of the table of inverses, "entry times unit leaves 1": `Rule p a r` says it of the entry r at the place a of the row of
 -- the prime p; `keeps p a r` is the same as a test.
--- Proves that an entry that passes keeps the rule. Assumes nothing.
+-- Proves that an entry that passes keeps the rule, and that 0 keeps it beyond the square. Assumes nothing.
 use mathlib.Core.Path.{_≡_, refl}
 use mathlib.Core.Bool.{Bool, true, cond, not, _&&_, and-false, and-eq-true-iff}
 use Prim.Native.Nat.{ℕ, _*_, _%_, _<_, _≤_}

@@ -13,10 +13,10 @@ use Rattle.algebra.specs.Polynomials.{PolyRing, 𝟏}
 use Rattle.algebra.specs.Congruence.{congruent-equal, congruent-sym, congruent-trans, congruent-mul, divides-congruent}
 use Rattle.algebra.specs.Degree.{Monic, monic-one, monic-zero}
 use Rattle.algebra.specs.Fields.{residue-nontrivial}
+use Rattle.algebra.specs.TakenPrimes.{is-prime}
 use Rattle.algebra.specs.CoefficientLists.{ℤ[x]/, poly, Reduced}
 use Rattle.factorisation.specs.MonicDivisors.{divisor-degree}
 use Rattle.quotients.specs.Remainder.{Remainder}
-use Rattle.algebra.specs.TakenPrimes.{is-prime}
 use Rattle.euclid.specs.CommonDivisors.{GcdOf, CofactorOf}
 use Rattle.lifting.specs.Correction.{Inverse}
 

@@ -1,5 +1,5 @@
 // One step of lifting: f = a·b modulo p, a and b coprime, gives factors of f modulo p² with these bars.
-// All is public for the crates above, and no entry point of the library.
+// What is public is so for the crates above, and no entry point of the library.
 use euclid::gcd;
 use modular::add_multiple;
 use modular::difference;
@@ -20,7 +20,7 @@ pub struct Pair {
 }
 
 // The h of f - a·b = p·h, modulo p².
-pub fn defect(f: [u16; 33], a: [u16; 33], i: usize, b: [u16; 33], j: usize, p: u16) -> [u16; 33]
+fn defect(f: [u16; 33], a: [u16; 33], i: usize, b: [u16; 33], j: usize, p: u16) -> [u16; 33]
     requires { ⌜ (p < 256) × Factors p f a i b j ⌝ }
     ensures { λ r. ⌜ Defect p f a i b j r ⌝ }
 {
@@ -31,7 +31,7 @@ pub fn defect(f: [u16; 33], a: [u16; 33], i: usize, b: [u16; 33], j: usize, p: u
 }
 
 // The s and t of s·b + t·a = h, modulo p: t is h·u modulo b, where u·a = 1 modulo b, and s is what is left over b.
-pub fn correction(
+fn correction(
     h: [u16; 33],
     a: [u16; 33],
     i: usize,
@@ -55,7 +55,7 @@ pub fn correction(
 }
 
 // The inverse of a modulo b, where they are coprime.
-pub fn inverse_modulo(a: [u16; 33], i: usize, b: [u16; 33], j: usize, p: u16) -> [u16; 33]
+fn inverse_modulo(a: [u16; 33], i: usize, b: [u16; 33], j: usize, p: u16) -> [u16; 33]
     requires { ⌜ CoprimePair p a i b j ⌝ }
     ensures { λ r. ⌜ Inverse p a b j r ⌝ }
 {
@@ -65,7 +65,7 @@ pub fn inverse_modulo(a: [u16; 33], i: usize, b: [u16; 33], j: usize, p: u16) ->
 }
 
 // a + p·s and b + p·t, where f - a·b = p·(s·b + t·a).
-pub fn lift_by(
+fn lift_by(
     f: [u16; 33],
     a: [u16; 33],
     i: usize,

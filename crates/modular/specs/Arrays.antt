@@ -1,6 +1,6 @@
 -- Arrays of 33 coefficients and the specification's lists of one polynomial: the list is the array's beginning.
--- Proves that reduced lists of one polynomial have the same entries, that an array with no term from k on is 0 there, and what its first k
--- entries are. Assumes nothing.
+-- Proves that reduced lists of one polynomial have the same entries, that an array with no term from k on is 0 there, what its first k entries
+-- are, what its size says of its polynomial, and what is kept modulo another number. Assumes nothing.
 use mathlib.Core.Path.{_≡_, sym, _∙_, ap, subst}
 use mathlib.Core.List.{List}
 use mathlib.Core.Logic.{_≢_, ⊎-elim}

@@ -1,5 +1,5 @@
 -- Inverses modulo a prime, as the search for them has it.
--- Proves that there is one among the numbers below the prime, and that 0 is none. Assumes nothing.
+-- Proves that there is one among the numbers below the prime, that 0 is none, and that the one found is an inverse in ℤ/p. Assumes nothing.
 use mathlib.Core.Path.{_≡_, sym, _∙_, ap}
 use mathlib.Core.Logic.{_≢_}
 use Prim.Native.Nat.{ℕ, zero, suc, _<_, _*_, _%_}
@@ -7,12 +7,11 @@ use native.Mathlib.Nat.{mul-zero, zero-mod, mod-eq-of-lt}
 use native.Mathlib.Omega.{arith}
 use Rattle.algebra.specs.Residues.{residue, Residues, residue-zero, residue-one, residue-mul, residue-value, residue-mod, value-below, same-remainder}
 use Rattle.algebra.specs.Fields.{Prime, prime-pos, residue-field}
+use Rattle.modular.specs.Arrays.{same-number}
 
 module _ {p : ℕ} (P : Prime p) (c : ℕ) (l : 0 < c) (s : c < p) where
   nonzero : residue p c ≢ (Residues p) .𝟘
-  nonzero e =
-      let r = same-remainder p (prime-pos P) c 0 (e ∙ sym (residue-zero p)) in
-      omega (arith, r, mod-eq-of-lt s, zero-mod p)
+  nonzero e = let z = same-number s (prime-pos P) (e ∙ sym (residue-zero p)) in omega (arith, l, z)
 
   pub inverse-below : (y : ℕ) × (y < p) × (c * y % p ≡ 1)
   inverse-below =

@@ -1,5 +1,6 @@
-// Arithmetic modulo n on arrays of 33 coefficients, constant first: n is a prime or its square. Sum, difference, product and division
-// are built of one loop, a + c·x^k·b. The contracts speak of polynomials over ℤ/n; all is public for the crates above, and no entry point of the library.
+// Arithmetic modulo n on arrays of 33 coefficients, constant first: n is a prime or its square. Multiple, sum, difference, product and division
+// are built of one loop, a + c·x^k·b. The contracts speak of polynomials over ℤ/n. What is public is so for the crates above, and no entry point of the
+// library.
 ghost use mathlib.Core.Path.{_≡_};
 ghost use mathlib.Core.List.{map};
 ghost use Prim.Native.Nat.{_<_, _≤_, _/_, _%_, _+_ as _+ℕ_, _*_ as _*ℕ_};
@@ -28,7 +29,7 @@ pub fn reduce(n: u16, s: u64) -> u16
 }
 
 // 2^32 / n, with which `reduce_by` divides.
-pub fn reciprocal(n: u16) -> u64
+fn reciprocal(n: u16) -> u64
     requires { ⌜ 0 < n ⌝ }
     ensures { λ r. ⌜ r ≡ 4294967296 / n ⌝ }
 {
@@ -36,7 +37,7 @@ pub fn reciprocal(n: u16) -> u64
 }
 
 // s modulo n, where w is the reciprocal of n: a product in place of a division gives the quotient, or one less.
-pub fn reduce_by(n: u16, w: u64, s: u32) -> u16
+fn reduce_by(n: u16, w: u64, s: u32) -> u16
     requires { ⌜ (0 < n) × (w ≡ 4294967296 / n) ⌝ }
     ensures { λ r. ⌜ r ≡ s % n ⌝ }
 {
@@ -50,7 +51,7 @@ pub fn reduce_by(n: u16, w: u64, s: u32) -> u16
 }
 
 // y + c·z modulo n, where w is the reciprocal of n.
-pub fn add_product(y: u16, c: u16, z: u16, n: u16, w: u64) -> u16
+fn add_product(y: u16, c: u16, z: u16, n: u16, w: u64) -> u16
     requires { ⌜ (0 < n) × (w ≡ 4294967296 / n) ⌝ }
     ensures { λ r. ⌜ r ≡ (y +ℕ c *ℕ z) % n ⌝ }
 {

@@ -4,6 +4,7 @@ use mathlib.Core.Path.{_≡_, refl}
 use mathlib.Core.Bool.{Bool, true, false, cond, _&&_}
 use mathlib.Core.Logic.{⊎-elim}
 use Prim.Native.Nat.{ℕ, zero, suc, _≤_, _<_, _-_, _+_}
+use native.Mathlib.Nat.{suc-ne-zero}
 use native.Mathlib.Decide.{ℕ-discrete}
 use native.Mathlib.Omega.{arith}
 use lib.Dec.{T, eqb, ltb, eqb→eq, ltb→lt, eqb·suc-zero}
@@ -18,9 +19,6 @@ use Rattle.algebra.specs.Tests.{passes, left, right}
 use Rattle.algebra.specs.ListLaws.{all-at}
 use Rattle.algebra.specs.CoefficientLists.{Reduced}
 use Rattle.polynomial.specs.RecordLaws.{length-trim-le}
-
-not-zero : {k : ℕ} → suc k ≡ 0 → ⊥
-not-zero e = omega arith
 
 pub proper-prime : (a : PolyRecord) → proper a ≡ true → taken (a .prime) ≡ true
 unfolding proper
@@ -70,13 +68,13 @@ pair-accepted a b e = at (proper a) (proper b) (eqb (a .prime) (b .prime)) refl 
       first = proper-reduced a h;
       second = rw (eqb-true (a .prime) (b .prime) p) (proper-reduced b g);
     }
-    at true true false h g p e = absurd (not-zero e)
-    at true false u h g p e = absurd (not-zero e)
-    at false t u h g p e = absurd (not-zero e)
+    at true true false h g p e = absurd (suc-ne-zero _ e)
+    at true false u h g p e = absurd (suc-ne-zero _ e)
+    at false t u h g p e = absurd (suc-ne-zero _ e)
 
 lowest-zero : (k l : ℕ) → lowest k l ≡ 0 → (k ≡ 0) × (l ≡ 0)
 lowest-zero zero l e = (refl, e)
-lowest-zero (suc k) l e = absurd (not-zero (rw (eqb·suc-zero k) at e))
+lowest-zero (suc k) l e = absurd (suc-ne-zero _ (rw (eqb·suc-zero k) at e))
 
 -- the product has 33 terms at most
 pub product-accepted : (a b : PolyRecord) → productNumber a b ≡ 0 → Pair a b × (size a + size b ≤ 34)
@@ -91,7 +89,7 @@ product-accepted a b e =
   where
     at : (s t : ℕ) → s ≤ 33 → t ≤ 33 → _≡_ {A = ℕ} (cond (ltb 0 s && ltb 0 t && ltb 32 (s - 1 + (t - 1))) 12 0) 0 → s + t ≤ 34
     at s t l m e =
-        ⊎-elim (λ h. ⊎-elim (λ g. ⊎-elim (λ w. absurd (not-zero (rw (lt-ltb 0 s h, lt-ltb 0 t g, lt-ltb 32 (s - 1 + (t - 1)) w) at e)))
+        ⊎-elim (λ h. ⊎-elim (λ g. ⊎-elim (λ w. absurd (suc-ne-zero _ (rw (lt-ltb 0 s h, lt-ltb 0 t g, lt-ltb 32 (s - 1 + (t - 1)) w) at e)))
         (λ w. omega arith) (lt-or-le 32 (s - 1 + (t - 1)))) (λ g. omega arith) (lt-or-le 0 t)) (λ h. omega arith) (lt-or-le 0 s)
 
 -- the divisor is monic
@@ -106,4 +104,4 @@ division-accepted a b e =
       where
         which : Dec (c ≡ 1) → c ≡ 1
         which (yes h) = h
-        which (no h) = absurd (not-zero (rw (ne-eqb c 1 h) at e))
+        which (no h) = absurd (suc-ne-zero _ (rw (ne-eqb c 1 h) at e))

@@ -1,5 +1,6 @@
 // Polynomials modulo the square of a prime: the record, zero, one, x and the limit of 32, and the public arithmetic of document 01.
-// Each entry point gives back, field by field, what the specification gives for the same records; none has a `requires`.
+// Each entry point gives back, field by field, what the specification gives for the same records; none has a `requires`. `square`, `proper` and
+// `leading` are public for the crates above, and no entry points.
 ghost use mathlib.Core.Path.{_≡_};
 ghost use Prim.Native.Nat.{_*_};
 ghost use Rattle.specification.specs.Records as records;

@@ -1,5 +1,5 @@
 // Arithmetic modulo a monic polynomial q of degree d over ℤ/n, on arrays of 33 coefficients: remainders, multiples by powers of x and products.
-// Each answer is the one remainder of its polynomial by q; all is public for the crates above, and no entry point.
+// Each answer is the one remainder of its polynomial by q. What is public is so for the crates above, and no entry point of the library.
 ghost use Prim.Native.Nat.{_<_, _≤_};
 ghost use Rattle.algebra.specs.Polynomials.{_·_, x};
 ghost use Rattle.algebra.specs.Degree.{Below, Monic};
@@ -18,7 +18,7 @@ pub fn remainder(a: [u16; 33], s: usize, q: [u16; 33], d: usize, n: u16) -> [u16
 }
 
 // x·a, where a has d terms: each coefficient goes up one place.
-pub fn times_x(a: [u16; 33], d: usize) -> [u16; 33]
+fn times_x(a: [u16; 33], d: usize) -> [u16; 33]
     requires { ⌜ d < 33 ⌝ }
     ensures { λ r. ⌜ TimesX a d r ⌝ }
 {

@@ -1,5 +1,6 @@
 // Splitting modulo a prime p by least dependencies, where q is monic of degree d: an element that splits q, or the answer that q is a power of
-// one irreducible polynomial; and what an element is for a factor of q. All is public for the crates above, and no entry point.
+// one irreducible polynomial; and what an element is for a factor of q. What is public is so for the crates above, and no entry
+// point of the library.
 use dependency::Found;
 use dependency::Image;
 use dependency::least_dependency;
@@ -21,7 +22,7 @@ pub struct Element {
 }
 
 // x^(p·i) - x^i modulo q for i below d: the images of the x^i under the map that takes v to v^p - v. p - 1 stands for minus one.
-pub fn images(q: [u16; 33], d: usize, p: u16) -> [Image; 33]
+fn images(q: [u16; 33], d: usize, p: u16) -> [Image; 33]
     requires { ⌜ (1 < p) × (0 < d) × (d < 33) × Monic d (poly p q) ⌝ }
     ensures { λ r. ⌜ PowerImages p q d d r ⌝ }
 {
@@ -42,7 +43,7 @@ pub fn images(q: [u16; 33], d: usize, p: u16) -> [Image; 33]
 }
 
 // A v that is not constant, of lower degree than q, with v^p = v modulo q, where there is one.
-pub fn splitting_element(q: [u16; 33], d: usize, p: u16) -> Found
+fn splitting_element(q: [u16; 33], d: usize, p: u16) -> Found
     requires { ⌜ Prime p × (0 < d) × (d < 33) × Monic d (poly p q) ⌝ }
     ensures { λ r. ⌜ ElementFound p d q r ⌝ }
 {
