@@ -4,15 +4,15 @@ use mathlib.Core.Path.{_≡_, refl, sym, _∙_, ap}
 use mathlib.Core.List.{List}
 use Prim.Native.Nat.{ℕ, _≤_, _+_ as _+ℕ_}
 use native.Mathlib.Nat.{add-comm}
-use Rattle.algebra.specs.Ring.{CommRing, mul-one, add-zero, linear2}
+use Rattle.algebra.specs.Ring.{CommRing, mul-one, linear1}
 use Rattle.algebra.specs.Identities.{con, _⊕_, _⊖_, _⊗_, ⊝_, _≈_, solve}
 use Rattle.algebra.specs.Residues.{Residues}
-use Rattle.algebra.specs.Polynomials.{PolyRing, _+_, _·_, -_, 𝟎, 𝟏}
-use Rattle.algebra.specs.Degree.{Below, Monic, below-𝟎, below-add, below-neg, below-mul, below-factor}
+use Rattle.algebra.specs.Polynomials.{PolyRing, _+_, _·_, -_, 𝟏}
+use Rattle.algebra.specs.Degree.{Below, Monic, below-add, below-neg, below-mul, below-factor}
 use Rattle.algebra.specs.CoefficientLists.{ℤ[x]/, poly, Reduced}
-use Rattle.algebra.specs.Congruence.{Congruent, congruent-equal, congruent-trans, congruent-mul, congruent-unique}
+use Rattle.algebra.specs.Congruence.{Congruent, congruent-equal, congruent-trans, congruent-mul}
 use Rattle.modular.specs.Coefficients.{Represents}
-use Rattle.modular.specs.Division.{DividedBy}
+use Rattle.modular.specs.Division.{DividedBy, divided-exactly}
 use Rattle.quotients.specs.Remainder.{Remainder}
 
 -- u·a = 1 modulo b, which is of degree j
@@ -56,21 +56,18 @@ module _ {p : ℕ} {h a b u : List ℕ} {i j : ℕ} (G : Given p h a i b j u) wh
     small-left = rw left (below-add (G .small) (below-neg (rw (add-comm i j) (below-mul (ht .small) (G .monic-first .below)))))
 
     module _ {s w : List ℕ} (hs : DividedBy p e b j s w) where
-      -- so b leaves nothing
-      nothing : poly p w ≡ 𝟎
-      nothing =
-          congruent-unique (G .monic-second) (hs .small) (below-𝟎 j) divisor
-        where
-          divisor : Congruent 𝓑 (poly p b) (poly p w) 𝟎
-          divisor = let (k, d) = same in (
-            - (poly p s) + - k,
-            linear2 𝓑 (- 𝟏) (- 𝟏) (hs .law ∙ left) d
-                (solve 𝓑 6 (λ s k b w h c. (⊝ s ⊖ k) ⊗ b ⊖ (w ⊖ con 0) ≈ ⊝ con 1 ⊗ (s ⊗ b ⊕ w ⊖ (h ⊖ c)) ⊕ ⊝ con 1 ⊗ (k ⊗ b ⊖ (c ⊖ h))) tt
-                (poly p s) k (poly p b) (poly p w) (poly p h) (poly p t · poly p a)),
-          )
-
+      -- so b divides what is left
       exact : poly p s · poly p b ≡ poly p e
-      exact = sym (add-zero 𝓑 (poly p s · poly p b)) ∙ ap (λ c. poly p s · poly p b + c) (sym nothing) ∙ hs .law
+      exact = go same
+        where
+          go : Congruent 𝓑 (poly p b) (poly p t · poly p a) (poly p h) → poly p s · poly p b ≡ poly p e
+          go (k, d) = ap (λ c. c · poly p b) (divided-exactly p e b (G .monic-second) hs (- k) whole .0) ∙ whole
+            where
+              whole : - k · poly p b ≡ poly p e
+              whole =
+                  linear1 𝓑 (- 𝟏) d
+                  (solve 𝓑 4 (λ k b c h. ⊝ k ⊗ b ⊖ (h ⊖ c) ≈ ⊝ con 1 ⊗ (k ⊗ b ⊖ (c ⊖ h))) tt k (poly p b) (poly p t · poly p a) (poly p h))
+                  ∙ sym left
 
       pub correction-is : Correction p h a i b j s t
       correction-is = record {
