@@ -1,5 +1,5 @@
 // The parts that were found, in the order of item 3: `insert` puts one in its place.
-// All is public for the crates above, and no entry point of the library.
+// What is public is so for the crates above, and no entry point of the library.
 ghost use mathlib.Core.Path.{_≡_};
 ghost use Prim.Native.Nat.{suc, _<_};
 ghost use Rattle.specification.specs.Claims.{Before};
@@ -17,7 +17,7 @@ pub struct Parts {
 }
 
 // Item 3: the polynomial of degree d in a comes before that of degree e in b.
-pub fn before(a: [u16; 33], d: usize, b: [u16; 33], e: usize) -> bool
+fn before(a: [u16; 33], d: usize, b: [u16; 33], e: usize) -> bool
     requires { ⌜ (d < 33) × (e < 33) ⌝ }
     ensures { λ r. ⌜ Answers r (Before (listed d a) (listed e b)) ⌝ }
 {
