@@ -1,6 +1,7 @@
 -- Membership in a list, `a ∈ l` (a place at which a stands), and `All`: a predicate holds of every member.
 -- `replace`: two elements in place of a member. Proves that a member divides the product, what the product of a list is where two
--- factors replace a member and where all members are equal, and that flattening goes through ++. Assumes nothing.
+-- factors replace a member and where all members are equal, that maps which agree on the members are equal on the list, and that flattening
+-- goes through ++. Assumes nothing.
 use mathlib.Core.Path.{_≡_, refl, subst, sym, _∙_, ap, ap₂}
 use mathlib.Core.Logic.{⊎-elim}
 use mathlib.Core.List.{List, [], _∷_, _++_, map, flatMap, append-assoc, List·Memᴰ, List·Memᴰ·cases-cons, List·Memᴰ·append-cases, Memᴰ·of-map}
@@ -44,6 +45,11 @@ all-replicate P a p (suc n) b i = all-cons p (all-replicate P a p n) b i
 
 pub all-map : {A C : Type 0} (P : C → Type 0) (f : A → C) (l : List A) → All (λ a. P (f a)) l → All P (map f l)
 all-map P f l h c i = let (a, j, e) = Memᴰ·of-map f l i in subst P e (h a j)
+
+-- maps that agree on every member
+pub map-equal : {A B : Type 0} (g h : A → B) (l : List A) → All (λ a. g a ≡ h a) l → map g l ≡ map h l
+map-equal g h [] e = refl
+map-equal g h (a ∷ l) e = ap₂ _∷_ (e a (here refl)) (map-equal g h l (all-tail e))
 
 pub flatMap-append : {A B : Type 0} (f : A → List B) (l m : List A) → flatMap f (l ++ m) ≡ flatMap f l ++ flatMap f m
 unfolding flatMap

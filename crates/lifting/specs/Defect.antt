@@ -18,8 +18,8 @@ use Rattle.factorisation.specs.Kernel.{kernel-sub}
 use Rattle.factorisation.specs.MonicDivisors.{monic-difference}
 use Rattle.factorisation.specs.ExtensionLaws.{bar-mul}
 use Rattle.factorisation.specs.PolynomialExtension.{below-part}
-use Rattle.theorems.specs.Reductions.{coefficients, barred, bar-poly}
-use Rattle.theorems.specs.ListExtension.{extension, π-is, part-list}
+use Rattle.theorems.specs.Reductions.{coefficients, barred, bar-poly, extension, π-is}
+use Rattle.theorems.specs.ListExtension.{part-list}
 use Rattle.modular.specs.Coefficients.{Represents}
 use Rattle.modular.specs.Arrays.{same-number, below-modulo}
 

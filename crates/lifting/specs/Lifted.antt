@@ -11,8 +11,7 @@ use Rattle.algebra.specs.Monomials.{x^, shift-zero}
 use Rattle.algebra.specs.Degree.{Below, Monic, monic-add, below-constant-mul}
 use Rattle.algebra.specs.CoefficientLists.{ℤ[x]/, poly, Reduced}
 use Rattle.factorisation.specs.ExtensionLaws.{bar-add, bar-mul, bar-add-π, π-equal}
-use Rattle.theorems.specs.Reductions.{barred, bar-poly}
-use Rattle.theorems.specs.ListExtension.{extension, π-is}
+use Rattle.theorems.specs.Reductions.{barred, bar-poly, extension, π-is}
 use Rattle.modular.specs.Coefficients.{Represents}
 use Rattle.modular.specs.Arrays.{below-modulo}
 use Rattle.lifting.specs.Defect.{Factors, Defect, first-monic, second-monic}

@@ -23,8 +23,7 @@ use Rattle.theorems.specs.MonicLists.{MonicList, poly-list, list-monic, monic-r
 use Rattle.theorems.specs.MonicDivision.{monic-list-pow}
 use Rattle.theorems.specs.Factorisations.{monic-equal}
 use Rattle.theorems.specs.Irreducibles.{irreducible-list}
-use Rattle.theorems.specs.Reductions.{barred, bar-poly}
-use Rattle.theorems.specs.Items.{monic-reduce}
+use Rattle.theorems.specs.Reductions.{barred, bar-poly, monic-reduce}
 use Rattle.theorems.specs.PartForm.{PartOver}
 use Rattle.verdicts.specs.Given.{listed}
 use Rattle.pieces.specs.declared.Parts.{Parts}

@@ -27,9 +27,8 @@ use Rattle.theorems.specs.MonicLists.{MonicList, monic-poly, monic-list-
 use Rattle.theorems.specs.MonicDivision.{monic-list-one}
 use Rattle.theorems.specs.Irreducibles.{irreducible-poly}
 use Rattle.theorems.specs.PowersOnly.{different-bases}
-use Rattle.theorems.specs.Reductions.{barred, digit-lift}
+use Rattle.theorems.specs.Reductions.{barred, digit-lift, extension}
 use Rattle.theorems.specs.Items.{powers-are, items}
-use Rattle.theorems.specs.ListExtension.{extension}
 use Rattle.theorems.specs.DifferentMembers.{different-factors, different-append}
 use Rattle.theorems.specs.AnswerLayout.{listOf-cons}
 use Rattle.theorems.specs.PartForm.{PartOver, part-over, base-monic}

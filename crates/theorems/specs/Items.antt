@@ -2,8 +2,7 @@
 -- Assumes nothing.
 use mathlib.Core.Path.{_≡_, sym, _∙_, ap, subst}
 use mathlib.Core.Logic.{_≢_}
-use Prim.Native.Nat.{ℕ, _<_, _*_ as _*ℕ_, _%_}
-use native.Mathlib.Nat.{mod-eq-of-lt}
+use Prim.Native.Nat.{ℕ, _*_ as _*ℕ_}
 use native.Mathlib.Omega.{arith}
 use lib.ListN.{length}
 use Rattle.specification.specs.Polynomials as spec
@@ -17,10 +16,11 @@ use Rattle.algebra.specs.Polynomials.{PolyRing}
 use Rattle.algebra.specs.Degree.{monic-one}
 use Rattle.algebra.specs.Fields.{Prime, prime-pos, residue-field, residue-nontrivial}
 use Rattle.algebra.specs.CoefficientLists.{ℤ[x]/, poly, poly-mul, poly-pow}
-use Rattle.algebra.specs.ListShapes.{length-reduce, low-reduce, getD-reduce}
+use Rattle.algebra.specs.ListShapes.{length-reduce}
 use Rattle.factorisation.specs.Members.{_∈_}
 use Rattle.factorisation.specs.Irreducible.{different-coprime}
 use Rattle.factorisation.specs.MonicDivisors.{divisor-degree}
+use Rattle.theorems.specs.Reductions.{monic-reduce}
 use Rattle.theorems.specs.MonicLists.{MonicList, monic-poly, from-claims, to-claims}
 use Rattle.theorems.specs.MonicDivision.{exact-multiplies}
 use Rattle.theorems.specs.Factorisations.{monic-equal}
@@ -28,13 +28,6 @@ use Rattle.theorems.specs.Irreducibles.{irreducible-poly}
 use Rattle.theorems.specs.PowersHold.{powers-hold}
 use Rattle.theorems.specs.PowersOnly.{powers-only}
 use Rattle.theorems.specs.PrimaryHolds.{IsPart, primary-is, part-only, parts-multiply, positive, D, mPower}
-
--- the bar of a monic list
-pub monic-reduce : {p : ℕ} → 1 < p → {n d : ℕ} {f : spec.Poly} → MonicList n d f → MonicList p d (spec.reduce p f)
-monic-reduce {p} large {d = d} {f} m = record {
-  reduced = record { len = length-reduce p f ∙ m .reduced .len; low = low-reduce p (omega arith) f };
-  leads = getD-reduce p f d ∙ ap (λ (a : ℕ). a % p) (m .leads) ∙ mod-eq-of-lt large;
-}
 
 module _ (p : ℕ) (prime : Prime p) {d : ℕ} {f : spec.Poly} (mf : MonicList (p *ℕ p) d f) where
   pub powers-are : claims.PowersOf p (spec.reduce p f) (powers p f)

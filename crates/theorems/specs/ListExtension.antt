@@ -20,8 +20,7 @@ use Rattle.algebra.specs.ListShapes.{getD-map}
 use Rattle.factorisation.specs.MonicDivisors.{divisor-degree}
 use Rattle.factorisation.specs.LongestLists.{Proper}
 use Rattle.theorems.specs.MonicLists.{monic-poly, from-claims}
-use Rattle.theorems.specs.Reductions.{coefficients, barred}
-pub use Rattle.theorems.specs.Reductions.{extension, π-is, lift-is, lift-list-monic}
+use Rattle.theorems.specs.Reductions.{coefficients, barred, extension}
 
 module _ (p : ℕ) (large : 1 < p) where
   module _ {q : spec.Poly} (m : claims.Monic (p *ℕ p) q) where

@@ -27,9 +27,9 @@ use Rattle.factorisation.specs.FewestDifferent.{different-at-least}
 use Rattle.theorems.specs.MonicLists.{MonicList, monic-poly, from-claims}
 use Rattle.theorems.specs.MonicDivision.{monic-list-product}
 use Rattle.theorems.specs.Factorisations.{monic-equal, factorisation, factorisation-product}
-use Rattle.theorems.specs.Reductions.{coefficients, barred}
+use Rattle.theorems.specs.Reductions.{coefficients, barred, extension}
 use Rattle.theorems.specs.Items.{powers-are, items}
-use Rattle.theorems.specs.ListExtension.{extension, monic-proper}
+use Rattle.theorems.specs.ListExtension.{monic-proper}
 use Rattle.theorems.specs.DifferentMembers.{decide, different-polys}
 use Rattle.theorems.specs.PartShapes.{records}
 use Rattle.theorems.specs.AllParts.{

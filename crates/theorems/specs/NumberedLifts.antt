@@ -17,8 +17,7 @@ use Rattle.factorisation.specs.Sums.{total, total-nil, total-cons}
 use Rattle.factorisation.specs.ExtensionLaws.{π-injective}
 use Rattle.theorems.specs.MonicLists.{MonicList}
 use Rattle.theorems.specs.Enumeration.{polynomials-member}
-use Rattle.theorems.specs.Reductions.{LiftOf, bar-poly, lift-monic, lift-bar, lifts-has}
-use Rattle.theorems.specs.ListExtension.{extension, lift-is}
+use Rattle.theorems.specs.Reductions.{LiftOf, bar-poly, lift-monic, lift-bar, lifts-has, extension, lift-is}
 use Rattle.theorems.specs.Numberings.{Digits, Numbered, Each, each-numbered, carried}
 use Rattle.theorems.specs.DigitStrings.{digits-reduced, reduced-digits}
 

@@ -7,7 +7,7 @@ use mathlib.Core.Logic.{_≢_, ⊎-elim}
 use Prim.Native.Nat.{ℕ, suc, _≤_, _<_, _-_, _/_, _+_ as _+ℕ_, _*_ as _*ℕ_}
 use native.Mathlib.Nat.{eq-or-lt-of-le}
 use native.Mathlib.Omega.{arith}
-use lib.ListN.{length, length-map}
+use lib.ListN.{length, getD, length-map}
 use Rattle.specification.specs.Polynomials as spec
 use Rattle.specification.specs.Powers.{Power}
 use Rattle.specification.specs.Parts.{hBar, m1, w}
@@ -22,15 +22,15 @@ use Rattle.algebra.specs.Degree.{Below, below-factor, small-multiple, monic-pow
 use Rattle.algebra.specs.Homomorphisms.{below-map}
 use Rattle.algebra.specs.CoefficientLists.{ℤ[x]/, poly, poly-reduce, poly-sub, poly-pow}
 use Rattle.algebra.specs.ListShapes.{length-sub, length-reduce, low-reduce}
-use Rattle.algebra.specs.ListDivision.{divides-exact, length-quotient}
+use Rattle.algebra.specs.ListDivision.{divides-exact, length-quotient, low-quotient}
 use Rattle.factorisation.specs.MonicDivisors.{monic-difference}
 use Rattle.factorisation.specs.ExtensionLaws.{bar-pow, π-equal}
 use Rattle.factorisation.specs.Kernel.{kernel-sub}
 use Rattle.factorisation.specs.PolynomialExtension.{below-part}
 use Rattle.theorems.specs.MonicLists.{MonicList, monic-poly, from-claims}
 use Rattle.theorems.specs.MonicDivision.{Divides, Highest, highest-is, monic-list-pow}
-use Rattle.theorems.specs.Reductions.{LiftOf, coefficients, barred, bar-poly, lift-over}
-use Rattle.theorems.specs.ListExtension.{extension, part-list}
+use Rattle.theorems.specs.Reductions.{LiftOf, coefficients, barred, bar-poly, lift-over, extension}
+use Rattle.theorems.specs.ListExtension.{part-list}
 
 -- items 1 and 2: a monic part modulo p² whose bar is the m-th power of an irreducible G
 pub record PartOver (p : ℕ) (G : spec.Poly) (m : ℕ) (part : spec.Poly) : Type 0 where
@@ -133,58 +133,68 @@ module _ {p : ℕ} (large : 1 < p) {G : spec.Poly} {m : ℕ} {part : spec.Poly} 
         ∙ length-sub (p *ℕ p) part (spec.pow (p *ℕ p) g m) (omega (arith, power-monic m .reduced .len, over .monic .reduced .len))
         ∙ over .monic .reduced .len
 
+    pub low-h : (j : ℕ) → getD (hBar p g m part) j 0 < p
+    unfolding hBar
+    low-h = low-reduce p (omega arith) _
+
     -- ---- item 7: "m1 is the highest power of G that divides h bar", "h bar = G^m1 · w"
 
     -- G^k divides h bar
     abbrev pub PowerDivides : ℕ → Type 0
     PowerDivides k = _∣_ 𝓑 (pow 𝓑 (poly p G) k) (poly p (hBar p g m part))
 
+    abbrev d : ℕ
+    d = spec.degree G
+
+    abbrev k : ℕ
+    k = m1 p G g m part
+
+    pub highest : Highest large G (hBar p g m part) m (m1 p G g m part)
+    highest = unfold m1 in highest-is large base-monic (hBar p g m part) m
+
+    power : MonicList p (k *ℕ d) (spec.pow p G k)
+    power = monic-list-pow large base-monic k
+
+    degrees : (m - k) *ℕ d +ℕ k *ℕ d ≡ m *ℕ d
+    degrees = rest-multiple d (highest .bound)
+
+    pub length-w : length (w p G g m part) ≡ suc ((m - m1 p G g m part) *ℕ spec.degree G)
+    unfolding w
+    length-w =
+        length-quotient p (omega arith) (k *ℕ d) (spec.pow p G k) (power .reduced .len) (monic-poly power) (hBar p g m part)
+        ∙ omega (arith, length-h, degrees)
+
+    pub low-w : (j : ℕ) → getD (w p G g m part) j 0 < p
+    unfolding w
+    low-w = low-quotient p (omega arith) (k *ℕ d) (spec.pow p G k) (power .reduced .len) (monic-poly power) (hBar p g m part) low-h
+
+    pub w-law : poly p (w p G g m part) · pow 𝓑 (poly p G) (m1 p G g m part) ≡ poly p (hBar p g m part)
+    unfolding w
+    w-law =
+        ap (λ a. poly p (w p G g m part) · a) (sym (poly-pow p (omega arith) G k))
+        ∙ divides-exact p (omega arith) (k *ℕ d) (spec.pow p G k) (power .reduced .len) (monic-poly power) (hBar p g m part) (highest .divides)
+
+    -- where h bar is not zero
     pub record HighestPower : Type 0 where
       pub less : m1 p G g m part < m
-      pub law : poly p (w p G g m part) · pow 𝓑 (poly p G) (m1 p G g m part) ≡ poly p (hBar p g m part)
       pub exact : ¬ PowerDivides (suc (m1 p G g m part))
       pub below : Below ((m - m1 p G g m part) *ℕ spec.degree G) (poly p (w p G g m part))
-      pub length-w : length (w p G g m part) ≡ suc ((m - m1 p G g m part) *ℕ spec.degree G)
 
     pub highest-power : poly p (hBar p g m part) ≢ 𝟎 → HighestPower
     highest-power nonzero = record {
       less = less;
-      law = law;
-      exact = λ v. top .top (suc k) (omega arith) less (rw (poly-pow p (omega arith) G (suc k)) v);
-      below = below-factor (monic-pow (monic-poly base-monic) k) ((m - k) *ℕ d) (poly p (w p G g m part)) (rw (law, degrees) below-h);
-      length-w = unfold w in
-          length-quotient p (omega arith) (k *ℕ d) (spec.pow p G k) (power .reduced .len) (monic-poly power) (hBar p g m part)
-          ∙ omega (arith, length-h, degrees);
+      exact = λ v. highest .top (suc k) (omega arith) less (rw (poly-pow p (omega arith) G (suc k)) v);
+      below = below-factor (monic-pow (monic-poly base-monic) k) ((m - k) *ℕ d) (poly p (w p G g m part)) (rw (w-law, degrees) below-h);
     }
       where
-        d : ℕ
-        d = spec.degree G
-
-        k : ℕ
-        k = m1 p G g m part
-
-        power : MonicList p (k *ℕ d) (spec.pow p G k)
-        power = monic-list-pow large base-monic k
-
-        top : Highest large G (hBar p g m part) m k
-        top = unfold m1 in highest-is large base-monic (hBar p g m part) m
-
         -- a multiple of G^m that is of lower degree is zero
         not-all : k ≢ m
         not-all e =
-            let (q, s) = subst (λ (j : ℕ). Divides p (spec.pow p G j) (hBar p g m part)) e (top .divides) in
+            let (q, s) = subst (λ (j : ℕ). Divides p (spec.pow p G j) (hBar p g m part)) e (highest .divides) in
             nonzero (sym s
             ∙ ap (λ a. a · poly p (spec.pow p G m))
             (small-multiple (monic-poly (monic-list-pow large base-monic m)) q (rw s below-h))
             ∙ zero-mul 𝓑 (poly p (spec.pow p G m)))
 
         less : k < m
-        less = ⊎-elim (λ e. absurd (not-all e)) (λ l. l) (eq-or-lt-of-le (top .bound))
-
-        degrees : (m - k) *ℕ d +ℕ k *ℕ d ≡ m *ℕ d
-        degrees = rest-multiple d (top .bound)
-
-        law : poly p (w p G g m part) · pow 𝓑 (poly p G) k ≡ poly p (hBar p g m part)
-        law = unfold w in
-            ap (λ a. poly p (w p G g m part) · a) (sym (poly-pow p (omega arith) G k))
-            ∙ divides-exact p (omega arith) (k *ℕ d) (spec.pow p G k) (power .reduced .len) (monic-poly power) (hBar p g m part) (top .divides)
+        less = ⊎-elim (λ e. absurd (not-all e)) (λ l. l) (eq-or-lt-of-le (highest .bound))

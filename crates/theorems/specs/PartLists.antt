@@ -12,10 +12,10 @@ use Rattle.specification.specs.Polynomials as spec
 use Rattle.specification.specs.Parts.{Factor}
 use Rattle.specification.specs.Claims as claims
 use Rattle.algebra.specs.Numbers.{square-large}
-use Rattle.algebra.specs.Ring.{CommRing, mul-one}
-use Rattle.algebra.specs.Divisibility.{_∣_, product, product-nil, product-cons}
+use Rattle.algebra.specs.Ring.{CommRing}
+use Rattle.algebra.specs.Divisibility.{_∣_, product, product-one}
 use Rattle.algebra.specs.Residues.{Residues}
-use Rattle.algebra.specs.Polynomials.{PolyRing, _·_}
+use Rattle.algebra.specs.Polynomials.{PolyRing}
 use Rattle.algebra.specs.Degree.{Monic, monic-pow}
 use Rattle.algebra.specs.Fields.{Prime, residue-nontrivial}
 use Rattle.algebra.specs.CoefficientLists.{ℤ[x]/, poly, poly-reduce, same-list}
@@ -27,8 +27,8 @@ use Rattle.factorisation.specs.LongestLists.{Part, Proper, length-at-most}
 use Rattle.factorisation.specs.Blocks.{multiplicity, divisor-bar}
 use Rattle.factorisation.specs.Settings.{Setting, first-bar}
 use Rattle.theorems.specs.MonicLists.{MonicList, monic-poly, from-claims}
-use Rattle.theorems.specs.Reductions.{LiftOf, barred, bar-poly}
-use Rattle.theorems.specs.ListExtension.{extension, monic-bar, monic-proper}
+use Rattle.theorems.specs.Reductions.{LiftOf, barred, bar-poly, extension}
+use Rattle.theorems.specs.ListExtension.{monic-bar, monic-proper}
 use Rattle.theorems.specs.PartForm.{PartOver, base-monic}
 use Rattle.theorems.specs.SplitPart.{SplitPart}
 use Rattle.theorems.specs.ListEnds.{then}
@@ -87,7 +87,7 @@ module _ {p : ℕ} (prime : Prime p) {G : spec.Poly} {m : ℕ} {part : spec.Poly
         length-at-most (extension p large) {Q = S .ring ∷ []} ((λ q i. elim i [ ]), tt) {L = map (poly n) L}
             (record {
               factors = factorisation-product (square-large p large) l ∙ sym (S .P-is)
-                  ∙ sym (product-cons 𝓐 (S .ring .P) [] ∙ ap (λ a. S .ring .P · a) (product-nil 𝓐) ∙ mul-one 𝓐 (S .ring .P));
+                  ∙ sym (product-one 𝓐 (S .ring .P));
               proper = all-map (Proper (extension p large)) (poly n) L (λ x i. monic-proper p large (l .monic x i));
             }),
       )

@@ -25,8 +25,7 @@ use Rattle.factorisation.specs.MonicDivisors.{monic-cancel-eq}
 use Rattle.factorisation.specs.LastMember.{first-divide}
 use Rattle.theorems.specs.MonicLists.{MonicList, monic-poly, monic-list-mul, from-claims, to-claims}
 use Rattle.theorems.specs.MonicDivision.{Divides, Exact, exact, monic-list-one}
-use Rattle.theorems.specs.Reductions.{barred, bar-poly}
-use Rattle.theorems.specs.ListExtension.{extension}
+use Rattle.theorems.specs.Reductions.{barred, bar-poly, extension}
 use Rattle.theorems.specs.PartForm.{PartOver, base-monic}
 use Rattle.theorems.specs.SplitPart.{SplitPart}
 use Rattle.theorems.specs.ListEnds.{then, length-then, last-equal, last-member}

@@ -18,14 +18,26 @@ use Rattle.algebra.specs.Polynomials.{PolyRing, _+_, _·_}
 use Rattle.algebra.specs.Fields.{Prime, prime-pos}
 use Rattle.algebra.specs.CoefficientLists.{ℤ[x]/, poly, poly-mul, poly-pow, poly-scale, same-list}
 use Rattle.algebra.specs.ListShapes.{length-mul, length-scale, low-reduce}
-use Rattle.algebra.specs.ListDivision.{isZero-poly, divides-exact, length-quotient, low-quotient}
+use Rattle.algebra.specs.ListDivision.{isZero-poly}
 use Rattle.factorisation.specs.ExtensionLaws.{number}
-use Rattle.theorems.specs.MonicLists.{MonicList, monic-poly, monic-same}
-use Rattle.theorems.specs.MonicDivision.{Highest, highest-is, monic-list-pow}
-use Rattle.theorems.specs.Reductions.{LiftOf, bar-poly}
+use Rattle.theorems.specs.MonicLists.{MonicList, monic-same}
+use Rattle.theorems.specs.MonicDivision.{monic-list-pow}
+use Rattle.theorems.specs.Reductions.{LiftOf, bar-poly, extension, lift-is, lift-list-monic}
 use Rattle.theorems.specs.Units.{number-constant, number-divided}
-use Rattle.theorems.specs.ListExtension.{extension, lift-is, lift-list-monic}
-use Rattle.theorems.specs.PartForm.{PartOver, base-monic, power-monic, shape-by, below-h, length-h, highest-power}
+use Rattle.theorems.specs.PartForm.{
+  PartOver,
+  base-monic,
+  power-monic,
+  shape-by,
+  below-h,
+  length-h,
+  low-h,
+  highest,
+  length-w,
+  low-w,
+  w-law,
+  highest-power,
+}
 
 module _ {p : ℕ} (prime : Prime p) {G g : spec.Poly} {m : ℕ} {part : spec.Poly} (over : PartOver p G m part) (lift : LiftOf p G g) where
   abbrev 𝓑 : CommRing (ℤ[x]/ p)
@@ -43,9 +55,6 @@ module _ {p : ℕ} (prime : Prime p) {G g : spec.Poly} {m : ℕ} {part : spec.Po
   abbrev k : ℕ
   k = m1 p G g m part
 
-  low-h : (j : ℕ) → getD h j 0 < p
-  low-h = unfold hBar in low-reduce p (prime-pos prime) _
-
   -- item 5
   h-holds : spec.lift p (spec.pow (p *ℕ p) g m) h ≡ part
   h-holds =
@@ -57,41 +66,26 @@ module _ {p : ℕ} (prime : Prime p) {G g : spec.Poly} {m : ℕ} {part : spec.Po
 
   -- ---- items 7 to 9
 
-  top : Highest large G h m k
-  top = unfold m1 in highest-is large (base-monic large over) h m
-
-  power : MonicList p (k *ℕ d) (spec.pow p G k)
-  power = monic-list-pow large (base-monic large over) k
-
-  degrees : (m - k) *ℕ d +ℕ k *ℕ d ≡ m *ℕ d
-  degrees = rest-multiple d (top .bound)
-
-  length-w : length (w p G g m part) ≡ suc ((m - k) *ℕ d)
-  unfolding w
-  length-w =
-      length-quotient p (prime-pos prime) (k *ℕ d) (spec.pow p G k) (power .reduced .len) (monic-poly power) h
-      ∙ omega (arith, length-h large over lift, degrees)
-
-  low-w : (j : ℕ) → getD (w p G g m part) j 0 < p
-  low-w = unfold w in low-quotient p (prime-pos prime) (k *ℕ d) (spec.pow p G k) (power .reduced .len) (monic-poly power) h low-h
-
   w-holds : spec.mul p (spec.pow p G k) (w p G g m part) ≡ h
   w-holds =
       same-list
-      (record { len = length-mul p (spec.pow p G k) (w p G g m part) (power .reduced .len) length-w ∙ omega (arith, degrees); low = low })
-      (record { len = length-h large over lift; low = low-h })
-      (poly-mul p (prime-pos prime) (spec.pow p G k) (w p G g m part) ∙ 𝓑 .*-comm _ _ ∙ exact)
+      (record { len = length-mul p (spec.pow p G k) (w p G g m part) (power .reduced .len) (length-w large over lift) ∙ omega (arith, degrees); low = low })
+      (record { len = length-h large over lift; low = low-h large over lift })
+      (poly-mul p (prime-pos prime) (spec.pow p G k) (w p G g m part) ∙ 𝓑 .*-comm _ _
+      ∙ ap (λ a. poly p (w p G g m part) · a) (poly-pow p (prime-pos prime) G k) ∙ w-law large over lift)
     where
       low : (j : ℕ) → getD (spec.mul p (spec.pow p G k) (w p G g m part)) j 0 < p
       low = unfold spec.mul in low-reduce p (prime-pos prime) _
 
-      exact : poly p (w p G g m part) · poly p (spec.pow p G k) ≡ poly p h
-      exact = unfold w in
-          divides-exact p (prime-pos prime) (k *ℕ d) (spec.pow p G k) (power .reduced .len) (monic-poly power) h (top .divides)
+      power : MonicList p (k *ℕ d) (spec.pow p G k)
+      power = monic-list-pow large (base-monic large over) k
+
+      degrees : (m - k) *ℕ d +ℕ k *ℕ d ≡ m *ℕ d
+      degrees = rest-multiple d (highest large over lift .bound)
 
   m1-highest : spec.isZero h ≡ false → (v : spec.Poly) → spec.mul p (spec.pow p G (suc k)) v ≡ h → ⊥
   m1-highest nonzero v e =
-      highest-power large over lift (λ z. subst T nonzero (isZero-poly p (prime-pos prime) h low-h z)) .exact (
+      highest-power large over lift (λ z. subst T nonzero (isZero-poly p (prime-pos prime) h (low-h large over lift) z)) .exact (
         poly p v,
         𝓑 .*-comm _ _ ∙ ap (λ a. a · poly p v) (sym (poly-pow p (prime-pos prime) G (suc k)))
             ∙ sym (poly-mul p (prime-pos prime) (spec.pow p G (suc k)) v) ∙ ap (poly p) e,
@@ -102,7 +96,7 @@ module _ {p : ℕ} (prime : Prime p) {G g : spec.Poly} {m : ℕ} {part : spec.Po
   u-holds unit =
       same-list
       (record { len = length-scale p m (u p G g m part) ∙ length-u; low = low })
-      (record { len = refl; low = low-w })
+      (record { len = refl; low = low-w large over lift })
       (poly-scale p (prime-pos prime) m (u p G g m part) ∙ ap (λ a. a · poly p (u p G g m part)) (sym (number-constant p m))
       ∙ divided)
     where

@@ -17,13 +17,13 @@ use Rattle.algebra.specs.Polynomials.{PolyRing, _·_}
 use Rattle.algebra.specs.Homomorphisms.{map-homomorphism}
 use Rattle.algebra.specs.Fields.{Prime, prime-pos}
 use Rattle.algebra.specs.CoefficientLists.{poly, poly-mul, poly-reduce, poly-product}
-use Rattle.factorisation.specs.Members.{_∈_, All, all-tail, all-map, member-divides}
+use Rattle.factorisation.specs.Members.{_∈_, All, all-tail, all-map, member-divides, map-equal}
 use Rattle.theorems.specs.MonicLists.{MonicList, from-claims}
 use Rattle.theorems.specs.MonicDivision.{monic-list-pow, monic-list-product}
 use Rattle.theorems.specs.Factorisations.{monic-equal}
-use Rattle.theorems.specs.Reductions.{coefficients, barred, bar-poly}
+use Rattle.theorems.specs.Reductions.{coefficients, barred, bar-poly, monic-reduce}
 use Rattle.theorems.specs.PrimaryHolds.{part-only}
-use Rattle.theorems.specs.Items.{monic-reduce, items}
+use Rattle.theorems.specs.Items.{items}
 use Rattle.theorems.specs.PartForm.{PartOver}
 
 -- a part, and the power that is its bar
@@ -37,10 +37,6 @@ FoundOver p F = PartOver p (F .power .base) (F .power .exponent) (F .part)
 -- with the verdict and the factors of items 4 to 9
 abbrev pub splitFound : ℕ → Found → Part
 splitFound p F = partOver p (F .power) (F .part)
-
-map-equal : {A B : Type 0} (g h : A → B) (l : List A) → All (λ a. g a ≡ h a) l → map g l ≡ map h l
-map-equal g h [] e = refl
-map-equal g h (a ∷ l) e = ap₂ _∷_ (e a (here refl)) (map-equal g h l (all-tail e))
 
 module _ (p : ℕ) (prime : Prime p) where
   abbrev n : ℕ

@@ -5,7 +5,7 @@ use mathlib.Core.Path.{_≡_, refl, sym, _∙_, ap, ap₂, subst}
 use mathlib.Core.List.{List, map, Memᴰ·of-map, Memᴰ·map, Memᴰ·cast}
 use mathlib.Core.Logic.{⊎-elim}
 use Prim.Native.Nat.{ℕ, suc, _≤_, _<_, _%_, _/_, _*_ as _*ℕ_}
-use native.Mathlib.Nat.{mod-add-div, mul-le-mul-left, div-eq-of-lt, zero-div, div-lt-iff-lt-mul, eq-or-lt-of-le}
+use native.Mathlib.Nat.{mod-add-div, mul-le-mul-left, div-eq-of-lt, zero-div, div-lt-iff-lt-mul, eq-or-lt-of-le, mod-eq-of-lt}
 use native.Mathlib.Omega.{arith}
 use lib.ListN.{length, getD, take, length-map, length-take, List·getD-eq-default}
 use lib.Seq.{getD-take, length-take-le}
@@ -30,6 +30,13 @@ use Rattle.theorems.specs.Enumeration.{polynomials-member, polynomials-h
 pub record LiftOf (p : ℕ) (G g : spec.Poly) : Type 0 where
   pub monic : MonicList (p *ℕ p) (spec.degree G) g
   pub bar : spec.reduce p g ≡ G
+
+-- the bar of a monic list
+pub monic-reduce : {p : ℕ} → 1 < p → {n d : ℕ} {f : spec.Poly} → MonicList n d f → MonicList p d (spec.reduce p f)
+monic-reduce {p} large {d = d} {f} m = record {
+  reduced = record { len = length-reduce p f ∙ m .reduced .len; low = low-reduce p (omega arith) f };
+  leads = getD-reduce p f d ∙ ap (λ (a : ℕ). a % p) (m .leads) ∙ mod-eq-of-lt large;
+}
 
 module _ (p : ℕ) (large : 1 < p) where
   -- ℤ/p² → ℤ/p

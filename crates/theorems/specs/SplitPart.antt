@@ -1,21 +1,20 @@
 -- What the factors of a primary part give: a part of the theory of longest lists, and the shape of the list that is written.
 -- Proves it of one factor, and of two, from what their powers multiply to. Assumes nothing.
-use mathlib.Core.Path.{_≡_, refl, sym, _∙_, ap, ap₂, subst}
+use mathlib.Core.Path.{_≡_, refl, sym, _∙_, ap, subst}
 use mathlib.Core.List.{List, [], _∷_, map, flatMap}
 use mathlib.Core.List.{List·Memᴰ·head as here, List·Memᴰ·tail as there}
-use mathlib.Core.Logic.{_⊎_, inl, inr}
+use mathlib.Core.Logic.{_⊎_, inl, inr, ⊎-elim}
 use lib.ListN.{length}
 use Prim.Native.Nat.{ℕ, suc, _≤_, _<_, _-_, _+_ as _+ℕ_, _*_ as _*ℕ_}
 use native.Mathlib.Nat.{mul-le-mul-left, mul-le-mul-right}
-use native.Mathlib.Decide.{decLe}
 use native.Mathlib.Omega.{arith}
 use Rattle.specification.specs.Polynomials as spec
 use Rattle.specification.specs.Parts.{Factor, factor}
 use Rattle.specification.specs.Totals.{copies}
 use Rattle.specification.specs.Claims as claims
-use Rattle.algebra.specs.Numbers.{square-large}
-use Rattle.algebra.specs.Ring.{CommRing, mul-one}
-use Rattle.algebra.specs.Divisibility.{_∣_, pow, pow-one, product, product-nil, product-cons}
+use Rattle.algebra.specs.Numbers.{lt-or-le, square-large}
+use Rattle.algebra.specs.Ring.{CommRing}
+use Rattle.algebra.specs.Divisibility.{_∣_, pow, pow-one, product, product-one, product-cons}
 use Rattle.algebra.specs.Residues.{Residues}
 use Rattle.algebra.specs.Polynomials.{PolyRing, _·_, 𝟎}
 use Rattle.algebra.specs.Degree.{Monic}
@@ -27,10 +26,9 @@ use Rattle.factorisation.specs.ExtensionLaws.{number}
 use Rattle.factorisation.specs.MonicDivisors.{monic-degree}
 use Rattle.factorisation.specs.LongestLists.{Part, Split}
 use Rattle.theorems.specs.MonicLists.{monic-poly, monic-same}
-use Rattle.theorems.specs.Reductions.{LiftOf, barred, lift-over}
+use Rattle.theorems.specs.Reductions.{LiftOf, barred, lift-over, extension}
 use Rattle.theorems.specs.Irreducibles.{prime-poly}
 use Rattle.theorems.specs.Factors.{degrees, repeats, length-members, members-monic, powered, poly-members}
-use Rattle.theorems.specs.ListExtension.{extension}
 use Rattle.theorems.specs.PartForm.{PartOver, PowerDivides, h, shape, bar-h}
 
 -- one factor, or two, the first of the degree of G
@@ -59,11 +57,7 @@ pub record SplitPart (p : ℕ) (large : 1 < p) (G : spec.Poly) (m : ℕ) (part :
 
 -- where the repeats are m at most, a factor of lower degree than G would leave the degrees' sum too small
 lowest : (d e t u m : ℕ) → 1 ≤ t → t +ℕ u ≤ m → e *ℕ t +ℕ d *ℕ u ≡ m *ℕ d → d ≤ e
-lowest d e t u m one few sum = go (decLe d e)
-  where
-    go : Dec (d ≤ e) → d ≤ e
-    go (yes l) = l
-    go (no n) = absurd (omega (arith, mul-le-mul-right t (let s : suc e ≤ d = omega arith in s), mul-le-mul-left d few))
+lowest d e t u m one few sum = ⊎-elim (λ l. absurd (omega (arith, mul-le-mul-right t l, mul-le-mul-left d few))) (λ l. l) (lt-or-le e d)
 
 none-lower : (G : spec.Poly) (m : ℕ) (qs : List Factor) → OneOrTwo G qs → degrees qs ≡ m *ℕ spec.degree G → repeats qs ≤ m
     → All (λ (q : Factor). 1 ≤ q .times) qs → All (λ (q : Factor). spec.degree G ≤ spec.degree (q .poly)) qs
@@ -132,12 +126,11 @@ module _ {p : ℕ} (prime : Prime p) {G g : spec.Poly} {m : ℕ} {part : spec.Po
             (rw (poly-members (square-large p large) qs, law) (monic-poly (over .monic)))
 
   -- q, t times
-  pub one-factor : (q : spec.Poly) (t : ℕ) → claims.Monic (p *ℕ p) q → 1 ≤ t → t ≤ m → PowerDivides large over lift (t - 1) → (m ≤ t) ⊎ ¬ PowerDivides large over lift t
-      → pow 𝓐 (poly (p *ℕ p) q) t ≡ poly (p *ℕ p) part → SplitPart p large G m part (factor q t ∷ [])
+  pub one-factor : (q : spec.Poly) (t : ℕ) → claims.Monic (p *ℕ p) q → 1 ≤ t → t ≤ m → PowerDivides large over lift (t - 1)
+      → (m ≤ t) ⊎ ¬ PowerDivides large over lift t → pow 𝓐 (poly (p *ℕ p) q) t ≡ poly (p *ℕ p) part → SplitPart p large G m part (factor q t ∷ [])
   one-factor q t monic l room divides longest law =
       split-from t 1 l room divides longest (inl (omega arith)) (factor q t ∷ []) (all-cons monic (λ r i. elim i [ ])) (all-cons l (λ r i. elim i [ ]))
-      (product-cons 𝓐 _ []
-      ∙ ap₂ _·_ law (product-nil 𝓐) ∙ mul-one 𝓐 (poly (p *ℕ p) part))
+      (product-one 𝓐 _ ∙ law)
       (inl (factor q t, refl)) (omega (arith, total-cons (λ (r : Factor). r .times) (factor q t) [], total-nil (λ (r : Factor). r .times))) refl
 
   -- q, t times, then r once
@@ -151,10 +144,7 @@ module _ {p : ℕ} (prime : Prime p) {G g : spec.Poly} {m : ℕ} {part : spec.Po
       (factor q t ∷ factor r 1 ∷ [])
       (all-cons monicq (all-cons monicr (λ a i. elim i [ ]))) (all-cons l (all-cons (omega arith) (λ a i. elim i [ ])))
       (product-cons 𝓐 (pow 𝓐 (poly (p *ℕ p) q) t) _
-      ∙ ap (λ a. pow 𝓐 (poly (p *ℕ p) q) t · a)
-      (product-cons 𝓐 (pow 𝓐 (poly (p *ℕ p) r) 1) []
-      ∙ ap₂ _·_ (pow-one 𝓐 (poly (p *ℕ p) r)) (product-nil 𝓐) ∙ mul-one 𝓐 (poly (p *ℕ p) r))
-      ∙ law)
+      ∙ ap (λ a. pow 𝓐 (poly (p *ℕ p) q) t · a) (product-one 𝓐 _ ∙ pow-one 𝓐 (poly (p *ℕ p) r)) ∙ law)
       (inr (factor q t, factor r 1, refl, degree))
       (omega (
         arith,

@@ -28,10 +28,9 @@ use Rattle.algebra.specs.ListShapes.{length-scale, low-reduce}
 use Rattle.algebra.specs.ListDivision.{poly-isZero, isZero-poly}
 use Rattle.factorisation.specs.ExtensionLaws.{number, bar-mul, bar-mul-pow, bar-pow, bar-number, binomial}
 use Rattle.theorems.specs.MonicLists.{to-claims}
-use Rattle.theorems.specs.Reductions.{LiftOf, barred, bar-poly, lift-over}
+use Rattle.theorems.specs.Reductions.{LiftOf, barred, bar-poly, lift-over, extension, lift-is, lift-list-monic}
 use Rattle.theorems.specs.Units.{number-multiple, number-divided}
-use Rattle.theorems.specs.ListExtension.{extension, lift-is, lift-list-monic}
-use Rattle.theorems.specs.PartForm.{PartOver, PowerDivides, HighestPower, power-monic, shape-by, highest-power}
+use Rattle.theorems.specs.PartForm.{PartOver, PowerDivides, HighestPower, power-monic, shape-by, length-w, w-law, highest-power}
 use Rattle.theorems.specs.SplitPart.{SplitPart, one-factor, two-factors}
 
 eqb-equal : {a b : ℕ} → a ≡ b → T (eqb a b)
@@ -75,14 +74,14 @@ module _ {p : ℕ} (prime : Prime p) {G g : spec.Poly} {m : ℕ} {part : spec.Po
 
   module _ (H : HighestPower large over lift) where
     below-top : PowerDivides large over lift k
-    below-top = (poly p (w p G g m part), H .law)
+    below-top = (poly p (w p G g m part), w-law large over lift)
 
     -- item 8: "the factor is g + p·u, m times"
     lift-repeated : m % p ≢ 0 → suc k ≡ m → SplitPart p large G m part (factor (spec.lift p g (u p G g m part)) m ∷ [])
     lift-repeated unit last =
         one-factor prime over lift (spec.lift p g v) m
         (to-claims (over .irreducible .monic .positive)
-        (lift-list-monic p large (lift .monic) v (omega (arith, length-v, H .length-w, rest)) below-v))
+        (lift-list-monic p large (lift .monic) v (omega (arith, length-v, length-w large over lift, rest)) below-v))
         (over .positive) (omega arith) (subst (PowerDivides large over lift) (omega arith) below-top) (inl (omega arith))
         (ap₂ (pow 𝓐) (lift-is p large g v) (sym last) ∙ binomial (extension p large) k γ (poly (p *ℕ p) v)
         ∙ ap (λ (j : ℕ). pow 𝓐 γ j + extension p large .π · (number 𝓐 j · (pow 𝓐 γ k · poly (p *ℕ p) v))) last
@@ -114,7 +113,7 @@ module _ {p : ℕ} (prime : Prime p) {G g : spec.Poly} {m : ℕ} {part : spec.Po
             (bar-mul (extension p large) (pow 𝓐 γ k) (poly (p *ℕ p) v)
             ∙ ap₂ _·_ (bar-pow (extension p large) γ k ∙ ap (λ a. pow 𝓑 a k) (lift-over p large lift)) (bar-poly p large v))
             ∙ solve 𝓑 3 (λ n x v. n ⊗ (x ⊗ v) ≈ n ⊗ v ⊗ x) tt (number 𝓑 m) (pow 𝓑 (poly p G) k) (poly p v)
-            ∙ ap (λ a. a · pow 𝓑 (poly p G) k) divided ∙ H .law
+            ∙ ap (λ a. a · pow 𝓑 (poly p G) k) divided ∙ w-law large over lift
 
     -- item 9: "The factors are g, m1 times, then g^(m − m1) + p·w once"
     g-and-last : 1 ≤ k → (suc k ≡ m → m % p ≡ 0)
@@ -123,7 +122,7 @@ module _ {p : ℕ} (prime : Prime p) {G g : spec.Poly} {m : ℕ} {part : spec.Po
         two-factors prime over lift g (spec.lift p q v) k
         (to-claims (over .irreducible .monic .positive) (lift .monic))
         (to-claims (mul-pos (let l : 0 < m - k = omega (arith, H .less) in l) (over .irreducible .monic .positive))
-        (lift-list-monic p large (power-monic large over lift (m - k)) v (omega (arith, H .length-w)) (H .below)))
+        (lift-list-monic p large (power-monic large over lift (m - k)) v (omega (arith, length-w large over lift)) (H .below)))
         positive (omega (arith, lift .monic .reduced .len)) (H .less) below-top
         (H .exact) (λ e. number-multiple p (prime-pos prime) m (null e))
         (ap (λ a. pow 𝓐 γ k · a)
@@ -142,7 +141,7 @@ module _ {p : ℕ} (prime : Prime p) {G g : spec.Poly} {m : ℕ} {part : spec.Po
         bars : barred p large (poly (p *ℕ p) v · pow 𝓐 γ k) ≡ poly p (hBar p g m part)
         bars =
             bar-mul-pow (extension p large) (poly (p *ℕ p) v) γ k
-            ∙ ap₂ (λ a b. a · pow 𝓑 b k) (bar-poly p large v) (lift-over p large lift) ∙ H .law
+            ∙ ap₂ (λ a b. a · pow 𝓑 b k) (bar-poly p large v) (lift-over p large lift) ∙ w-law large over lift
 
   -- the tests in order
   pub part-splits : SplitPart p (prime .large) G m part (splitting p G g m part .factors)

@@ -15,7 +15,7 @@ use Rattle.algebra.specs.CoefficientLists.{poly, Reduced}
 use Rattle.factorisation.specs.Multiplicity.{Multiplicity, power-divides, power-bound}
 use Rattle.factorisation.specs.MonicDivisors.{monic-cancel-eq}
 use Rattle.theorems.specs.MonicLists.{monic-poly}
-use Rattle.theorems.specs.PartForm.{HighestPower, highest-power, below-h}
+use Rattle.theorems.specs.PartForm.{HighestPower, below-h, w-law, highest-power}
 use Rattle.verdicts.specs.Given.{listed, held-poly, Given, large, base-degree, base-list}
 use Rattle.verdicts.specs.Cofactors.{HighestIn}
 
@@ -64,12 +64,13 @@ module _ {p : ℕ} {base g : List ℕ} {d m : ℕ} {part : List ℕ} (given : Gi
         same =
             le-antisymm
             (⊎-elim (λ l. absurd (H .exact (power-divides M l))) (λ l. l) (lt-or-le (parts.m1 p G γ m Q) k))
-            (power-bound (monic-cancel monic) M (poly p (parts.w p G γ m Q), H .law))
+            (power-bound (monic-cancel monic) M (poly p (parts.w p G γ m Q), w-law (large given) (given .over) (given .lift)))
 
         cofactor : poly p w ≡ poly p (parts.w p G γ m Q)
         cofactor =
             monic-cancel-eq (monic-pow monic k)
-            (M .law ∙ sym (H .law) ∙ ap (λ (j : ℕ). poly p (parts.w p G γ m Q) · pow (PolyRing (Residues p)) (poly p G) j) (sym same))
+            (M .law ∙ sym (w-law (large given) (given .over) (given .lift))
+            ∙ ap (λ (j : ℕ). poly p (parts.w p G γ m Q) · pow (PolyRing (Residues p)) (poly p G) j) (sym same))
 
         below : Below ((m - k) *ℕ d) (poly p w)
         below = rw (cofactor, same) (subst (λ (e : ℕ). Below ((m - parts.m1 p G γ m Q) *ℕ e) (poly p (parts.w p G γ m Q))) (base-degree given) (H .below))

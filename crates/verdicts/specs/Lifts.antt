@@ -13,8 +13,7 @@ use Rattle.algebra.specs.CoefficientLists.{poly, poly-pow}
 use Rattle.algebra.specs.Monomials.{x^, shift-zero}
 use Rattle.modular.specs.Coefficients.{Represents}
 use Rattle.factorisation.specs.ExtensionLaws.{π-equal}
-use Rattle.theorems.specs.Reductions.{bar-poly, poly-lift}
-use Rattle.theorems.specs.ListExtension.{extension, lift-is}
+use Rattle.theorems.specs.Reductions.{bar-poly, poly-lift, extension, lift-is}
 
 module _ (p : ℕ) (large : 1 < p) where
   -- the multiple by p that is not shifted

@@ -23,8 +23,8 @@ use Rattle.algebra.specs.ListShapes.{low-reduce, length-scale}
 use Rattle.algebra.specs.ListDivision.{poly-zeros, poly-isZero, isZero-poly}
 use Rattle.modular.specs.Coefficients.{Represents, zeros}
 use Rattle.theorems.specs.MonicLists.{MonicList, monic-poly}
-use Rattle.theorems.specs.ListExtension.{lift-list-monic}
-use Rattle.theorems.specs.PartForm.{HighestPower, power-monic}
+use Rattle.theorems.specs.Reductions.{lift-list-monic}
+use Rattle.theorems.specs.PartForm.{HighestPower, power-monic, length-w as quotient-length}
 use Rattle.verdicts.specs.Degrees.{rest-room}
 use Rattle.modular.specs.Arrays.{beginning}
 use Rattle.verdicts.specs.Given.{listed, Held, held-poly, Given, large, degree-room, base-degree, g-list}
@@ -125,7 +125,7 @@ module _ {p : ℕ} {base g : List ℕ} {d m : ℕ} {part : List ℕ} (given : Gi
       degrees = ap₂ (λ (j e : ℕ). (m - j) *ℕ e) (sym (F .exponent)) (base-degree given)
 
       length-w : length (parts.w p G γ m Q) ≡ suc ((m - k) *ℕ d)
-      length-w = H .length-w ∙ ap suc degrees
+      length-w = quotient-length (large given) (given .over) (given .lift) ∙ ap suc degrees
 
       below-w : Below ((m - k) *ℕ d) (poly p (parts.w p G γ m Q))
       below-w = subst (Below ((m - k) *ℕ d)) (F .is) last-below
