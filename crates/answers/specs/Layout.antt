@@ -1,5 +1,5 @@
 -- The layout of an answer over the code's arrays: the bytes of a factor, of a part and of an answer, as they are written one after the other.
--- Proves that they are those of the definitions. Assumes nothing.
+-- Proves that they are those of the definitions; `TotalsOf` says that the three totals are. Assumes nothing.
 use mathlib.Core.Path.{_≡_, refl, sym, _∙_, ap, ap₂, subst}
 use mathlib.Core.Bool.{Bool, true, false}
 use mathlib.Core.List.{List, [], _∷_, _++_, map, flatMap, append-nil}
@@ -123,10 +123,14 @@ abbrev pub TotalsOf : List parts.Part → Totals → Type 0
 TotalsOf Ps t = (t .factors ≡ total Ps) × (t .different ≡ different (listOf Ps)) × (t .free ≡ freeDigits Ps)
 
 -- "then 0x13, 0x0F"
-pub end-is : (Ps : List parts.Part) {t : Totals} → TotalsOf Ps t → (0x13 ∷ t .factors ∷ t .different ∷ t .free ∷ []) ++ (0x0F ∷ []) ≡ endBytes Ps
+abbrev pub endOf : Totals → List ℕ
+endOf t = 0x13 ∷ t .factors ∷ t .different ∷ t .free ∷ 0x0F ∷ []
+
+end-is : (Ps : List parts.Part) {t : Totals} → TotalsOf Ps t → endOf t ≡ endBytes Ps
 unfolding endBytes totalBytes
 end-is Ps (e, f, g) = rw (e, f, g)
 
-pub answer-is : (p d : ℕ) (xs : List Part)
-    → (0x01 ∷ p ∷ 0x02 ∷ d ∷ []) ++ partsBytes xs ++ endBytes (map asPart xs) ≡ answerBytes p d (map asPart xs)
-answer-is p d xs = ap (λ (l : List ℕ). 0x01 ∷ p ∷ 0x02 ∷ d ∷ (l ++ endBytes (map asPart xs))) (sym (flatMap-map partBytes asPart xs))
+pub answer-is : (p d : ℕ) (xs : List Part) {t : Totals} → TotalsOf (map asPart xs) t
+    → (0x01 ∷ p ∷ 0x02 ∷ d ∷ []) ++ partsBytes xs ++ endOf t ≡ answerBytes p d (map asPart xs)
+answer-is p d xs e =
+    ap₂ (λ (l m : List ℕ). 0x01 ∷ p ∷ 0x02 ∷ d ∷ (l ++ m)) (sym (flatMap-map partBytes asPart xs)) (end-is (map asPart xs) e)

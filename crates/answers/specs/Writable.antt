@@ -27,7 +27,8 @@ use Rattle.verdicts.specs.SplitByItems.{PartHeld}
 use Rattle.pieces.specs.declared.Parts.{Parts}
 use Rattle.pieces.specs.Views.{held}
 use Rattle.writing.specs.Area.{Room, room-as}
-use Rattle.answers.specs.Layout.{partsBytes, answer-is}
+use Rattle.answers.specs.declared.Totals.{Totals}
+use Rattle.answers.specs.Layout.{partsBytes, TotalsOf, endOf, answer-is}
 use Rattle.answers.specs.Counting.{total-sum, records-sum, free-sum, Countable}
 
 -- the degrees that stand in a part are within the limit
@@ -68,9 +69,9 @@ module _ {p d : ℕ} {a : Parts} (h : Writable p d a) where
   }
 
   -- there is room for the answer as it is written
-  pub answer-room : {area : List ℕ} → answerArea ≤ length area
-      → Room area 0 ((0x01 ∷ p ∷ 0x02 ∷ d ∷ []) ++ partsBytes (held a) ++ endBytes (heldParts a))
-  answer-room l = room-as (answer-is p d (held a)) (record { fits = omega (arith, h .fits .short); low = h .fits .low })
+  pub answer-room : {area : List ℕ} {t : Totals} → TotalsOf (heldParts a) t → answerArea ≤ length area
+      → Room area 0 ((0x01 ∷ p ∷ 0x02 ∷ d ∷ []) ++ partsBytes (held a) ++ endOf t)
+  answer-room e l = room-as (answer-is p d (held a) e) (record { fits = omega (arith, h .fits .short); low = h .fits .low })
 
 -- ---- the parts of a good sheet
 

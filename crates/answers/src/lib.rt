@@ -5,13 +5,13 @@ ghost use mathlib.Core.List.{flatMap};
 ghost use Prim.Native.Nat.{_-_, _*_, _≤_, _<_};
 ghost use lib.ListN.{length};
 ghost use Rattle.specification.specs.Limits.{answerArea};
-ghost use Rattle.specification.specs.Answers.{verdictNumber, factorBytes, partBytes, endBytes};
+ghost use Rattle.specification.specs.Answers.{verdictNumber, factorBytes, partBytes};
 ghost use Rattle.factorisation.specs.Members.{All};
 ghost use Rattle.theorems.specs.AnswerLayout.{answerBytes};
 ghost use Rattle.verdicts.specs.Views.{asVerdict, asFactor, asFactors, asPart};
 ghost use Rattle.pieces.specs.Views.{held};
 ghost use Rattle.writing.specs.Area.{Wrote, Room};
-ghost use Rattle.answers.specs.Layout.{isSplit, partsBytes, TotalsOf};
+ghost use Rattle.answers.specs.Layout.{isSplit, partsBytes, TotalsOf, endOf};
 ghost use Rattle.answers.specs.Counting.{partFactors, Adds, Countable};
 ghost use Rattle.answers.specs.Writable.{DegreesFit, heldParts, Writable};
 use pieces::Parts;
@@ -163,11 +163,10 @@ pub fn count_totals(parts: Parts) -> Totals
 }
 
 // All that follows the parts: 0x13 with the totals, and the end.
-fn write_end(out: &mut [u8], at: usize, parts: Parts) -> usize
-    requires { ⌜ (parts .count ≤ 32) × Countable (held parts) × Room (now out) at (endBytes (heldParts parts)) ⌝ }
-    ensures { λ r. ⌜ Wrote (now (out .entry)) (now (out .exit)) at (endBytes (heldParts parts)) r ⌝ }
+fn write_end(out: &mut [u8], at: usize, t: Totals) -> usize
+    requires { ⌜ Room (now out) at (endOf t) ⌝ }
+    ensures { λ r. ⌜ Wrote (now (out .entry)) (now (out .exit)) at (endOf t) r ⌝ }
 {
-    let t = count_totals(parts);
     let next = put_four(
         out,
         at,
@@ -184,7 +183,8 @@ pub fn write_answer(out: &mut [u8], p: u8, d: usize, parts: Parts) -> usize
     requires { ⌜ Writable p d parts × (answerArea ≤ length (now out)) ⌝ }
     ensures { λ r. ⌜ Wrote (now (out .entry)) (now (out .exit)) 0 (answerBytes p d (heldParts parts)) r ⌝ }
 {
+    let t = count_totals(parts);
     let first = put_four(out, 0, 0x01, p, 0x02, d as u8);
     let last = write_parts(out, first, parts);
-    write_end(out, last, parts)
+    write_end(out, last, t)
 }

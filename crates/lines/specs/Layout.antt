@@ -69,6 +69,12 @@ heldText xs = flatMap (λ (x : Part). partText (asPart x)) xs
 pub part-turns : (d : Part) (xs : List Part) (n : ℕ) → n ≤ length xs → Turns (λ i. heldText (take i xs)) (λ i. partText (asPart (getD xs i d))) n
 part-turns d xs n l = flat-turns (λ (x : Part). partText (asPart x)) d xs n l
 
+-- "The last line holds the three totals"
+pub totals-are : (t : Totals)
+    → item "total " (t .factors) ++ item " different " (t .different) ++ item " free " (t .free) ++ ascii "\n" ≡ totalText (t .factors) (t .different) (t .free)
+unfolding totalText
+totals-are t = refl
+
 pub lines-are : (p d : ℕ) (xs : List Part) {t : Totals} → TotalsOf (map asPart xs) t
     → headText p d ++ heldText xs ++ totalText (t .factors) (t .different) (t .free) ≡ partsText p d (map asPart xs)
 unfolding partsText

@@ -42,7 +42,7 @@ printed-sized bytes = subst (Sized textRoom) (sym (printed-is bytes)) (go (readS
 
 -- what follows more bytes than a sheet has is not looked at
 module _ (xs ys : List ℕ) (long : sheetLimit < length xs) where
-  pub reading-prefix : readSheet (xs ++ ys) ≡ readSheet xs
+  reading-prefix : readSheet (xs ++ ys) ≡ readSheet xs
   reading-prefix =
       sym (first-bytes-decide (xs ++ ys)) ∙ ap readSheet (take-append-le (suc sheetLimit) xs ys (omega arith)) ∙ first-bytes-decide xs
 

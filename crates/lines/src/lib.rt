@@ -1,5 +1,5 @@
 // The lines that `split` prints, written into a lent area: each writer begins at a place and gives the place after its text.
-// `write_text` is public for the program, and no entry point of the library.
+// What is public is so for the program `split`, and no entry point of the library.
 ghost use mathlib.Core.Path.{_≡_};
 ghost use mathlib.Core.List.{_++_, flatMap};
 ghost use Prim.Native.Nat.{_≤_, _<_};

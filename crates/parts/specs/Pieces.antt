@@ -35,6 +35,16 @@ pub record Splitting (p : ℕ) (f : spec.Poly) (pieces : List Piece) (count : �
   pub long : length pieces ≡ 32
   pub state : State p f parts (stack noPiece pieces count)
 
+-- a piece that is not cut, with its bar
+pub whole-piece : {p d : ℕ} {a q : List ℕ} → Monics p a d → Represents p q (poly p a) → Unsplit p d (poly p a) → UnsplitPiece p a q d
+whole-piece m b u = record {
+  prime = m .prime;
+  positive = m .positive;
+  monic = record { fits = m .fits; reduced = m .reduced; monic = m .monic };
+  bar = b;
+  unsplit = u;
+}
+
 -- what is left to do
 abbrev pub left : List Piece → ℕ → ℕ
 left pieces count = work (stack noPiece pieces count)
@@ -62,16 +72,6 @@ module _ {p : ℕ} {f : spec.Poly} {pieces : List Piece} {count : ℕ} {parts : 
 
   pub top-element : Known p (x .degree) (poly p (x .coefs)) (x .element)
   top-element = state.top-element p f parts x rest opened
-
-  -- a piece that is not cut, with its bar
-  pub whole-piece : {q : List ℕ} → Represents p q (poly p (x .coefs)) → Unsplit p (x .degree) (poly p (x .coefs)) → UnsplitPiece p (x .coefs) q (x .degree)
-  whole-piece b u = record {
-    prime = top .prime;
-    positive = top .positive;
-    monic = record { fits = top .fits; reduced = top .reduced; monic = top .monic };
-    bar = b;
-    unsplit = u;
-  }
 
   pub part-room : parts .count < 32
   part-room = state.part-room p f parts x rest opened

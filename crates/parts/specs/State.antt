@@ -69,7 +69,7 @@ given-list : {p : ℕ} {f : List ℕ} {d : ℕ} → Monics p f d → MonicList (
 given-list {p} m = listed-monic (square-large p (is-prime (m .prime) .large)) (array-of m)
 
 -- nothing is claimed of an element that is not known
-pub not-known : {p d : ℕ} (Q : ℤ[x]/ p) {e : Element} → e .known ≡ false → Known p d Q e
+not-known : {p d : ℕ} (Q : ℤ[x]/ p) {e : Element} → e .known ≡ false → Known p d Q e
 not-known Q z = record { reduced = λ y. absurd (false≢true (sym z ∙ y)); splits = λ y. absurd (false≢true (sym z ∙ y)) }
 
 pub state-start : (p : ℕ) (f : List ℕ) (d : ℕ) (e : Element) (parts : Parts) → Monics p f d → e .known ≡ false → parts .count ≡ 0

@@ -1,13 +1,15 @@
 // All parts of a monic f modulo p², in the order of item 3: a stack of pieces, each cut in two or found to be a part.
-// `parts_of` takes any record. All is public for the crates above, and no entry point of the library.
+// `parts_of` takes any record. What is public is so for the crates above, and no entry point of the library.
 ghost use mathlib.Core.Path.{_≡_};
 ghost use mathlib.Core.Bool.{false};
 ghost use Rattle.specification.specs.RecordParts as specification;
+ghost use Rattle.algebra.specs.CoefficientLists.{poly};
+ghost use Rattle.frobenius.specs.Unsplit.{Unsplit};
 ghost use Rattle.polynomial.specs.Views.{asRecord};
 ghost use Rattle.factors.specs.Cut.{Monics};
+ghost use Rattle.primary.specs.PartFound.{PartFound};
 ghost use Rattle.parts.specs.State.{PartsOf};
 ghost use Rattle.parts.specs.Records.{PartsAnswered};
-use factors::Cut;
 use factors::bar;
 use factors::cut_in_two;
 use pieces::Parts;
@@ -19,11 +21,18 @@ use verdicts::Factor;
 use verdicts::Part;
 use verdicts::Verdict;
 
+// What a record's polynomial is split into; no parts where the number is not 0.
+pub struct PartsAnswer {
+    pub number: u8,
+    pub place: usize,
+    pub parts: Parts,
+}
+
 // A monic polynomial modulo p², its degree, and a splitting element of its bar, if one is known.
-pub struct Piece {
-    pub coefs: [u16; 33],
-    pub degree: usize,
-    pub element: Element,
+struct Piece {
+    coefs: [u16; 33],
+    degree: usize,
+    element: Element,
 }
 
 // No splitting element is known.
@@ -36,15 +45,8 @@ fn unknown() -> Element
     }
 }
 
-// What a record's polynomial is split into; no parts where the number is not 0.
-pub struct PartsAnswer {
-    pub number: u8,
-    pub place: usize,
-    pub parts: Parts,
-}
-
 // No parts.
-pub fn no_parts() -> Parts
+fn no_parts() -> Parts
     ensures { λ r. ⌜ r .count ≡ 0 ⌝ }
 {
     let zero = [0u16; 33];
@@ -66,6 +68,15 @@ pub fn no_parts() -> Parts
         count: 0,
         parts: parts,
     }
+}
+
+// The part that q is, of degree d, where it is not cut.
+fn part_of(q: [u16; 33], d: usize, p: u16) -> Part
+    requires { ⌜ Monics p q d × Unsplit p d (poly p q) ⌝ }
+    ensures { λ r. ⌜ PartFound p q d r ⌝ }
+{
+    let e = bar(q, d, p);
+    primary_part(q, e, d, p)
 }
 
 // Items 1 to 9: the parts of f, which is of degree d.
@@ -105,9 +116,7 @@ pub fn split(f: [u16; 33], d: usize, p: u16) -> Parts
             pieces[count] = upper;
             count += 1;
         } else {
-            let e = bar(q, piece.degree, p);
-            let part = primary_part(q, e, piece.degree, p);
-            let more = insert(parts, part);
+            let more = insert(parts, part_of(q, piece.degree, p));
             parts = more;
             count -= 1;
         }

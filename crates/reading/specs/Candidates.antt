@@ -37,7 +37,7 @@ module _ {bytes : List ℕ} (s : Sheet) (g : GoodSheet s) (e : bytes ≡ answer 
   pub answer-long : 2 ≤ length bytes
   answer-long = omega (arith, ap length (e ∙ answer-items s))
 
-  pub answer-prime : getD bytes 1 0 ≡ s .prime
+  answer-prime : getD bytes 1 0 ≡ s .prime
   answer-prime = ap (λ (l : List ℕ). getD l 1 0) (e ∙ answer-items s)
 
   pub answer-taken : taken (getD bytes 1 0) ≡ true
@@ -56,13 +56,13 @@ module _ {bytes : List ℕ} (s : Sheet) (g : GoodSheet s) (e : bytes ≡ answer 
         (ap (drop 4) (e ∙ answer-items s)) in
         (found, is ∙ sym (items-product s g))
 
-    pub answer-found : r .found ≡ true
+    answer-found : r .found ≡ true
     answer-found = found-all .0
 
     array : MonicArray (s .prime *ℕ s .prime) (r .degree) (r .coefs)
     array = product-of .sound answer-found
 
-    pub answer-poly : polyIn (r .degree) (r .coefs) ≡ s .poly
+    answer-poly : polyIn (r .degree) (r .coefs) ≡ s .poly
     answer-poly =
         monic-equal (large s g) (listed-monic (large s g) array) (monic s g)
         (poly-take (s .prime *ℕ s .prime) (suc (r .degree)) (r .coefs) (array .monic .below) ∙ found-all .1)

@@ -2,6 +2,7 @@ pub mod Items
 pub mod Found
 pub mod Bytes
 pub mod WrittenCoefficients
+pub mod LeftCoefficients
 pub mod ReadingCoefficients
 pub mod Growing
 pub mod Multiplying

@@ -9,6 +9,7 @@ use Prim.Native.Nat.{ℕ, _≤_, _<_, _+_ as _+ℕ_, _*_ as _*ℕ_}
 use native.Mathlib.Omega.{arith}
 use lib.ListN.{length, getD, drop, replicate}
 use Rattle.specification.specs.Limits.{degreeLimit}
+use Rattle.specification.specs.Parts.{Factor}
 use Rattle.specification.specs.Answers.{factorBytes}
 use Rattle.algebra.specs.Ring.{CommRing, mul-one}
 use Rattle.algebra.specs.Divisibility.{pow, product, product-nil, product-cons}
@@ -38,7 +39,7 @@ unfolding flatMap
 bytes-cons x xs rest = append-assoc (itemBytes x) (flatMap itemBytes xs) (0x13 ∷ rest)
 
 -- no item begins as a coefficient does, nor do the totals
-pub bytes-other : (xs : List Item) (rest : List ℕ) → Other (bytesOf xs rest)
+bytes-other : (xs : List Item) (rest : List ℕ) → Other (bytesOf xs rest)
 unfolding flatMap factorBytes
 bytes-other [] rest = λ e. omega arith
 bytes-other (head d m v ∷ xs) rest = λ e. omega arith
@@ -73,12 +74,16 @@ module _ (n : ℕ) where
   unfolding factorsOf
   no-items = product-nil 𝓐
 
+  -- a factor by itself
+  pub one-product : (q : Factor) → productOf (one q ∷ []) ≡ powered n q
+  unfolding factorsOf
+  one-product q = product-cons 𝓐 (powered n q) [] ∙ ap (λ a. powered n q · a) (product-nil 𝓐) ∙ mul-one 𝓐 (powered n q)
+
   product-items : (x : Item) (xs : List Item) → productOf (x ∷ xs) ≡ productOf (x ∷ []) · productOf xs
   unfolding factorsOf
   product-items (head d m v) xs = sym (ap (λ a. a · productOf xs) (product-nil 𝓐) ∙ 𝓐 .*-one (productOf xs))
   product-items (one q) xs =
-      product-cons 𝓐 (powered n q) (map (powered n) (factorsOf xs))
-      ∙ ap (λ a. a · productOf xs) (sym (product-cons 𝓐 (powered n q) [] ∙ ap (λ a. powered n q · a) (product-nil 𝓐) ∙ mul-one 𝓐 (powered n q)))
+      product-cons 𝓐 (powered n q) (map (powered n) (factorsOf xs)) ∙ ap (λ a. a · productOf xs) (sym (one-product q))
 
   -- ---- the loop
 

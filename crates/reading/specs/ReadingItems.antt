@@ -2,7 +2,7 @@
 -- Proves that the functions which read one keep their promises, from those of the functions that they call. Assumes nothing.
 use mathlib.Core.Path.{_≡_, refl, sym, _∙_, ap, ap₂}
 use mathlib.Core.Bool.{true, false, false≢true}
-use mathlib.Core.List.{List, [], _∷_, _++_, map}
+use mathlib.Core.List.{List, [], _∷_, _++_}
 use Prim.Native.Nat.{ℕ, suc, _<_, _+_ as _+ℕ_, _*_ as _*ℕ_}
 use native.Mathlib.Omega.{arith}
 use lib.ListN.{length, getD, drop, replicate}
@@ -11,21 +11,20 @@ use Rattle.specification.specs.Polynomials as spec
 use Rattle.specification.specs.Parts.{Factor}
 use Rattle.specification.specs.Sheets.{coefficientBytes}
 use Rattle.specification.specs.Answers.{factorBytes}
-use Rattle.algebra.specs.Ring.{mul-one}
-use Rattle.algebra.specs.Divisibility.{pow, pow-zero, product, product-nil, product-cons}
+use Rattle.algebra.specs.Divisibility.{pow, pow-zero, product-nil}
 use Rattle.algebra.specs.Residues.{Residues}
-use Rattle.algebra.specs.Polynomials.{PolyRing, _·_}
+use Rattle.algebra.specs.Polynomials.{PolyRing}
 use Rattle.algebra.specs.CoefficientLists.{poly}
 use Rattle.algebra.specs.ListDivision.{poly-take}
 use Rattle.factorisation.specs.Sums.{total}
-use Rattle.theorems.specs.Factors.{degrees, powered}
+use Rattle.theorems.specs.Factors.{degrees}
 use Rattle.pieces.specs.ArrayPieces.{listed-monic}
 use Rattle.reading.specs.declared.Coefficients.{Coefficients}
 use Rattle.reading.specs.declared.Item as code
 use Rattle.reading.specs.Items.{Item, head, one, itemBytes, factorsOf, Fits, Other}
 use Rattle.reading.specs.Found.{CoefficientsOf, FactorOf, Matches, ItemOf}
 use Rattle.reading.specs.Bytes.{byte-at, first-byte, bytes-on, enough}
-use Rattle.reading.specs.Multiplying.{one-array}
+use Rattle.reading.specs.Multiplying.{one-product, one-array}
 
 -- the bytes of a factor
 factor-bytes : (q : Factor) (rest : List ℕ)
@@ -33,17 +32,10 @@ factor-bytes : (q : Factor) (rest : List ℕ)
 unfolding factorBytes
 factor-bytes q rest = refl
 
--- a factor by itself
-
+-- its degree, with its repeats
 weight-one : (q : Factor) → spec.degree (q .poly) *ℕ q .times ≡ degrees (factorsOf (one q ∷ []))
 unfolding factorsOf total
 weight-one q = omega arith
-
-value-one : {n : ℕ} (q : Factor) → powered n q ≡ product (PolyRing (Residues n)) (map (powered n) (factorsOf (one q ∷ [])))
-unfolding factorsOf
-value-one {n} q =
-    sym (product-cons (PolyRing (Residues n)) (powered n q) [] ∙ ap (λ a. powered n q · a) (product-nil (PolyRing (Residues n)))
-    ∙ mul-one (PolyRing (Residues n)) (powered n q))
 
 module _ {bytes : List ℕ} {at n : ℕ} where
   -- ---- a factor
@@ -100,7 +92,8 @@ module _ {bytes : List ℕ} {at n : ℕ} where
             found = found;
             follows = on;
             weight = ap₂ _*ℕ_ (sym degree) times ∙ weight-one q;
-            value = ap₂ (pow (PolyRing (Residues n))) (sym (poly-take n (suc (r .degree)) (r .coefs) (m .monic .below)) ∙ ap (poly n) is) times ∙ value-one q;
+            value = ap₂ (pow (PolyRing (Residues n))) (sym (poly-take n (suc (r .degree)) (r .coefs) (m .monic .below)) ∙ ap (poly n) is) times
+                ∙ sym (one-product n q);
           }
 
   pub no-item : {r : code.Item} → r .found ≡ false → (getD bytes at 0 ≡ 0x11 → ⊥) → (getD bytes at 0 ≡ 0x12 → ⊥) → ItemOf bytes at n r

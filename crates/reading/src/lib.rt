@@ -3,13 +3,14 @@
 ghost use mathlib.Core.Path.{_≡_};
 ghost use mathlib.Core.Bool.{false};
 ghost use Prim.Native.Nat.{_<_, _≤_};
-ghost use lib.ListN.{length, set, replicate};
+ghost use lib.ListN.{length};
 ghost use Rattle.pieces.specs.ArrayPieces.{MonicArray};
 ghost use Rattle.reading.specs.Found.{CoefficientsOf, FactorOf, ItemOf, GrownBy, ProductOf, CandidateOf};
 use modular::product;
 use polynomial::Poly;
 use polynomial::square;
 use primes::taken;
+use sheets::monomial;
 
 // What the bytes can belong to, if anything.
 pub struct Candidate {
@@ -40,16 +41,6 @@ struct Grown {
     found: bool,
     degree: usize,
     coefs: [u16; 33],
-}
-
-// x to a power.
-fn monomial(degree: usize) -> [u16; 33]
-    requires { ⌜ degree ≤ 32 ⌝ }
-    ensures { λ r. ⌜ r ≡ set (replicate 33 0) degree 1 ⌝ }
-{
-    let mut coefs = [0u16; 33];
-    coefs[degree] = 1;
-    coefs
 }
 
 // x to the degree with the coefficients that 0x03 commands give it from a place on.

@@ -21,13 +21,13 @@ use Rattle.sheets.specs.Views.{sheetRead, polyIn, Held}
 -- ---- what is held
 
 module _ {d : ℕ} {coefs : List ℕ} (h : Held d coefs) where
-  pub length-in : length (polyIn d coefs) ≡ suc d
+  length-in : length (polyIn d coefs) ≡ suc d
   length-in = length-take-le (suc d) coefs (omega (arith, h .len, h .fits))
 
   pub degree-in : degree (polyIn d coefs) ≡ d
   degree-in = omega (arith, length-in)
 
-  pub pad-in : pad (polyIn d coefs) ≡ coefs
+  pad-in : pad (polyIn d coefs) ≡ coefs
   pad-in =
       ext-getD 0 (pad (polyIn d coefs)) coefs (length-pad (polyIn d coefs) ∙ sym (h .len))
       (λ k l. getD-pad (polyIn d coefs) (omega (arith, length-in, h .fits)) k ∙ at k)

@@ -28,13 +28,13 @@ module _ (s : Sheet) (g : GoodSheet s) where
   long : length (s .poly) ≡ suc (degree (s .poly))
   long = omega (arith, g .monic .positive)
 
-  pub good-in : polyIn (degree (s .poly)) (pad (s .poly)) ≡ s .poly
+  good-in : polyIn (degree (s .poly)) (pad (s .poly)) ≡ s .poly
   unfolding pad
   good-in =
       take-take (suc (degree (s .poly))) coefficientCount (s .poly ++ replicate coefficientCount 0) (omega (arith, g .fits))
       ∙ take-at (s .poly) (replicate coefficientCount 0) (suc (degree (s .poly))) long
 
-  pub good-monics : Monics (s .prime) (pad (s .poly)) (degree (s .poly))
+  good-monics : Monics (s .prime) (pad (s .poly)) (degree (s .poly))
   good-monics = record {
     prime = passes (taken (s .prime)) (g .prime);
     positive = g .monic .positive;

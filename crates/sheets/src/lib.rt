@@ -2,10 +2,11 @@
 // `read_sheet` takes any bytes. Each step's answer is a `Step`, and the first fault is handed back as it stands.
 ghost use mathlib.Core.Path.{_≡_};
 ghost use Prim.Native.Nat.{_+_, _<_, _≤_};
-ghost use lib.ListN.{length, drop};
+ghost use lib.ListN.{length, set, drop};
 ghost use Rattle.specification.specs.Polynomials.{monomial};
 ghost use Rattle.specification.specs.Sheets.{sheetOf, command, nothingMore, readFrom, readSheet};
 ghost use Rattle.sheets.specs.Views.{sheetRead, refusal, polyIn, Held};
+ghost use Rattle.sheets.specs.HeldArrays.{zeros};
 ghost use Rattle.sheets.specs.Steps.{ByteAt, PrimeRead, DegreeRead, CommandRead, IndexRead, ValueRead};
 use polynomial::Poly;
 use polynomial::square;
@@ -202,14 +203,23 @@ fn ended(part: &[u8], at: usize, prime: u8, degree: u8, coefs: [u16; 33]) -> She
     })
 }
 
+// What a degree stands for: "leading coefficient 1, the rest 0". Public for the answer reader.
+pub fn monomial(degree: usize) -> [u16; 33]
+    requires { ⌜ degree ≤ 32 ⌝ }
+    ensures { λ r. ⌜ r ≡ set zeros degree 1 ⌝ }
+{
+    let mut coefs = [0u16; 33];
+    coefs[degree] = 1;
+    coefs
+}
+
 // The coefficient reader: the part of a sheet past its degree.
 fn read_coefficients(part: &[u8], prime: u8, degree: u8) -> SheetRead
     requires { ⌜ degree ≤ 32 ⌝ }
     ensures { λ r. ⌜ r ≡ sheetRead (readFrom (command (sheetOf prime (monomial degree)) 0) 4 (now (part .entry))) ⌝ }
 {
     let modulus = square(prime);
-    let mut coefs = [0u16; 33];
-    coefs[degree as usize] = 1;
+    let mut coefs = monomial(degree as usize);
     let mut least: u8 = 0;
     let mut at: usize = 0;
     loop {

@@ -12,7 +12,6 @@ use Rattle.parts.specs.Pieces.{
   left,
   top,
   top-element,
-  whole-piece,
   part-room,
   arrays-fit,
   piece-room,
@@ -51,10 +50,7 @@ split-spec =
     (top w l, top-element w l))  -- cut-in-two-requires
     (λ c.
     let e = c .before .before .before .before .before in
-    let w = e .before .before .before .before .before .before .loop .inv in
-    let l = e .before .before .before .before .before .loop-test .taken in
-    let t = e .before .cut-in-two .ensures .two (e .if1 .taken) in
-    omega (arith, t .less))  -- sub-pieces
+    omega (arith, e .before .cut-in-two .ensures .two (e .if1 .taken) .less))  -- sub-pieces
     (λ c. search needs)  -- sub-pieces-2
     (λ c. search needs)  -- mul-pieces
     (λ c. search needs)  -- array-set-from-pieces
@@ -84,26 +80,22 @@ split-spec =
     let t = e .before .cut-in-two .ensures .two (e .if1 .taken) in
     splitting-cut w l _ _ t (e .before .before .before .before .before .before .before .before .unknown .ensures)
     (e .before .cut-in-two .ensures .rest-known (e .if1 .taken)))  -- loop-again
-    (λ c κs. top (c .before .before .before .before .before .before .loop .inv) (c .before .before .before .before .before .loop-test .taken))  -- bar-requires
+    (λ c κs.
+    let w = c .before .before .before .before .before .before .loop .inv in
+    let l = c .before .before .before .before .before .loop-test .taken in
+    (top w l, c .before .cut-in-two .ensures .none (c .if1 .left)))  -- part-of-requires
     (λ c κs.
     let e = c .before in
     let w = e .before .before .before .before .before .before .loop .inv in
     let l = e .before .before .before .before .before .loop-test .taken in
-    whole-piece w l (c .bar .ensures) (e .before .cut-in-two .ensures .none (e .if1 .left)))  -- primary-part-requires
-    (λ c κs.
+    (part-room w l, omega (arith, c .part-of .ensures .held .room), arrays-fit w l))  -- insert-requires
+    (λ c. search needs)  -- sub-count
+    (λ c.
+    let e = c .before .before in
+    found-less (e .before .before .before .before .before .before .loop .inv) (e .before .before .before .before .before .loop-test .taken))  -- loop-less-2
+    (λ c.
     let e = c .before .before in
     let w = e .before .before .before .before .before .before .loop .inv in
     let l = e .before .before .before .before .before .loop-test .taken in
-    (part-room w l, omega (arith, c .primary-part .ensures .held .room), arrays-fit w l))  -- insert-requires
-    (λ c. search needs)  -- sub-count
-    (λ c.
-    let e = c .before .before .before in
-    let w = e .before .before .before .before .before .before .loop .inv in
-    let l = e .before .before .before .before .before .loop-test .taken in
-    found-less w l)  -- loop-less-2
-    (λ c.
-    let e = c .before .before .before in
-    let w = e .before .before .before .before .before .before .loop .inv in
-    let l = e .before .before .before .before .before .loop-test .taken in
-    splitting-found w l (c .before .primary-part .ensures) (c .insert .ensures .0) (c .insert .ensures .1))  -- loop-again-2
+    splitting-found w l (c .before .part-of .ensures) (c .insert .ensures .0) (c .insert .ensures .1))  -- loop-again-2
     (λ c. splitting-done (c .before .before .before .before .pre) (c .before .loop .inv) (c .loop-test .left)))  -- returns

@@ -32,9 +32,8 @@ read-coefficients-spec =
     tie.close
     (tie.spec Inv-loop μ-loop
     (λ c κs. search needs)  -- square-requires
-    (λ c. search needs)  -- mul-coefs
-    (λ c. search needs)  -- array-write-coefs
-    (λ c. (sym (c .square .ensures), underway-first _ _ _ (c .before .before .pre)))  -- loop-holds
+    (λ c κs. search needs)  -- monomial-requires
+    (λ c. (sym (c .before .square .ensures), rw (c .monomial .ensures) (underway-first _ _ _ (c .before .before .before .pre))))  -- loop-holds
     (λ c κs. c .loop .inv .1 .reach)  -- command-at-requires
     (λ c. search needs)  -- enum-known-first
     (λ c. search needs)  -- enum-told
@@ -95,7 +94,7 @@ read-coefficients-spec =
     (g .index-at .ensures) (h .before .before .second .given .1) (w .0) (h .value-at .ensures) (c .before .enum-told3 .given .1)))  -- returns-4
     (λ c. search needs)  -- cast-coefs
     (λ c. search needs)  -- cast-coefs-2
-    (λ c. search needs)  -- mul-coefs-2
+    (λ c. search needs)  -- mul-coefs
     (λ c.
     let g = c .before .before .before .before .before .before .before in
     let e = g .before in
@@ -104,7 +103,7 @@ read-coefficients-spec =
       arith,
       after-index _ _ _ (f .before .loop .inv .1) (f .command-at .ensures) (e .before .before .first .given .1) (e .if1 .left)
           (g .index-at .ensures) (c .before .before .before .before .before .second .given .1),
-    ))  -- array-write-coefs-2
+    ))  -- array-write-coefs
     (λ c.
     let g = c .before .before .before .before .before .before .before in
     let e = g .before in
