@@ -11,8 +11,8 @@ const LINE: usize = 1024;
 
 // A line that grows; what does not fit is left out, and the comparison shows it.
 pub struct Line {
-    pub bytes: [u8; LINE],
-    pub len: usize,
+    bytes: [u8; LINE],
+    len: usize,
 }
 
 impl Line {

@@ -22,7 +22,7 @@ pub struct SheetRead {
 }
 
 // A byte that is taken, or the fault that ends the reading.
-pub enum Step {
+enum Step {
     Taken(u8),
     Fault { number: u8, place: usize },
 }

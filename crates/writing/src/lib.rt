@@ -1,5 +1,5 @@
 // Sheets and other bytes written into a lent area: each writer begins at a place and gives the place after its bytes.
-// All is public for the crates above, and no entry point of the library.
+// What is public is so for the crates above, and no entry point of the library.
 ghost use mathlib.Core.List.{[], _∷_};
 ghost use Prim.Native.Nat.{ℕ, suc, _+_, _≤_, _<_};
 ghost use lib.ListN.{length, getD, take};
