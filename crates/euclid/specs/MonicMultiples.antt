@@ -8,7 +8,7 @@ use lib.ListN.{getD}
 use Rattle.algebra.specs.Identities.{_⊗_, _≈_, solve}
 use Rattle.algebra.specs.Divisibility.{_∣_, divides-mul}
 use Rattle.algebra.specs.Residues.{residue, Residues}
-use Rattle.algebra.specs.Polynomials.{PolyRing, _·_, 𝟏, constant, constant-mul, constant-one, coef-constant-mul}
+use Rattle.algebra.specs.Polynomials.{PolyRing, _·_, 𝟏, constant, constant-unit, coef-constant-mul}
 use Rattle.algebra.specs.Degree.{Monic, below-up, below-constant-mul}
 use Rattle.algebra.specs.Fields.{Prime}
 use Rattle.algebra.specs.CoefficientLists.{ℤ[x]/, poly, coef-poly}
@@ -46,11 +46,9 @@ module _ {p : ℕ} {a : List ℕ} {s : ℕ} {r : List ℕ} {c : ℕ} where
 
       unit : constant (residue p c) · top ≡ 𝟏
       unit =
-          sym (constant-mul (residue p c) (residue p (getD a (s - 1) 0)))
-          ∙ ap constant
+          constant-unit (Residues p)
           (ap ((Residues p) .mul (residue p c)) (sym (coef-poly p a (s - 1))) ∙ sym (coef-constant-mul (residue p c) (poly p a) (s - 1))
           ∙ ap (λ f. f .coef (s - 1)) (sym (m .multiple .is)) ∙ m .monic .leading)
-          ∙ constant-one (Residues p)
 
   pub divides-back : MonicMultipleOf p a s r c → (g : ℤ[x]/ p) → _∣_ (PolyRing (Residues p)) g (poly p r) → _∣_ (PolyRing (Residues p)) g (poly p a)
   divides-back m g h = rw (← back m) (divides-mul (PolyRing (Residues p)) (constant (residue p (getD a (s - 1) 0))) h)

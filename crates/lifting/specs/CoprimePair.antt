@@ -7,7 +7,7 @@ use Prim.Native.Nat.{ℕ, _<_}
 use native.Mathlib.Omega.{arith}
 use Rattle.specification.specs.Limits.{taken}
 use Rattle.algebra.specs.Ring.{CommRing}
-use Rattle.algebra.specs.Divisibility.{_∣_, Coprime, divides-trans, divides-add, divides-mul}
+use Rattle.algebra.specs.Divisibility.{_∣_, Coprime, coprime-common, divides-trans}
 use Rattle.algebra.specs.Residues.{Residues}
 use Rattle.algebra.specs.Polynomials.{PolyRing, 𝟏}
 use Rattle.algebra.specs.Congruence.{congruent-equal, congruent-sym, congruent-trans, congruent-mul, divides-congruent}
@@ -40,9 +40,8 @@ module _ {p : ℕ} {a b : List ℕ} {i j : ℕ} (C : CoprimePair p a i b j) {r g
   divides-first : _∣_ 𝓑 (poly p g) (poly p a)
   divides-first = divides-congruent 𝓑 (divides-trans 𝓑 (hg .right) (congruent-sym 𝓑 (hr .congruent))) (hg .left)
 
-  -- what divides a and b divides 1
   divides-one : _∣_ 𝓑 (poly p g) 𝟏
-  divides-one = rw (← C .coprime .law) (divides-add 𝓑 (divides-mul 𝓑 (C .coprime .u) divides-first) (divides-mul 𝓑 (C .coprime .v) (hg .right)))
+  divides-one = coprime-common 𝓑 (C .coprime) divides-first (hg .right)
 
   one : poly p g ≡ 𝟏
   one =
