@@ -1,4 +1,4 @@
--- Two factors of f modulo p² with coprime bars: `Monics`, what is given, `CutOf`, what comes of it.
+-- Two factors of f modulo p² with coprime bars: `MonicModSquare`, what is given, `CutOf`, what comes of it.
 -- Proves that the halves of the bar of f, lifted, are such. Assumes nothing.
 use mathlib.Core.Path.{_≡_, sym, _∙_, ap, subst}
 use mathlib.Core.Bool.{Bool, true, false}
@@ -26,7 +26,7 @@ use Rattle.lifting.specs.CoprimePair.{CoprimePair}
 use Rattle.lifting.specs.Lifted.{Lifted}
 
 -- f is monic of degree d modulo p²
-pub record Monics (p : ℕ) (f : List ℕ) (d : ℕ) : Type 0 where
+pub record MonicModSquare (p : ℕ) (f : List ℕ) (d : ℕ) : Type 0 where
   pub prime : taken p ≡ true
   pub positive : 0 < d
   pub fits : d < 33
@@ -50,7 +50,7 @@ pub record CutOf (p : ℕ) (f : List ℕ) (d : ℕ) (cut : Bool) (A : List ℕ) 
   pub rest-known : cut ≡ true → Known p (d - i) (poly p B) rest
   pub none : cut ≡ false → Unsplit p d (poly p f)
 
-module _ {p : ℕ} {f : List ℕ} {d : ℕ} (M : Monics p f d) where
+module _ {p : ℕ} {f : List ℕ} {d : ℕ} (M : MonicModSquare p f d) where
   large : 1 < p
   large = is-prime (M .prime) .large
 

@@ -3,7 +3,7 @@
 ghost use Rattle.algebra.specs.CoefficientLists.{poly};
 ghost use Rattle.modular.specs.Coefficients.{Represents};
 ghost use Rattle.splitting.specs.Elements.{Known};
-ghost use Rattle.factors.specs.Cut.{Monics, CutOf};
+ghost use Rattle.factors.specs.Cut.{MonicModSquare, CutOf};
 use splitting::Element;
 use splitting::element_for;
 use splitting::element_of;
@@ -19,7 +19,7 @@ pub struct Cut {
 
 // f modulo p.
 pub fn bar(f: [u16; 33], d: usize, p: u16) -> [u16; 33]
-    requires { ⌜ Monics p f d ⌝ }
+    requires { ⌜ MonicModSquare p f d ⌝ }
     ensures { λ r. ⌜ Represents p r (poly p f) ⌝ }
 {
     let zero = [0u16; 33];
@@ -28,7 +28,7 @@ pub fn bar(f: [u16; 33], d: usize, p: u16) -> [u16; 33]
 
 // f cut in two, unless its bar has no splitting element. The element e of the bar is used, if it is known.
 pub fn cut_in_two(f: [u16; 33], d: usize, e: Element, p: u16) -> Cut
-    requires { ⌜ Monics p f d × Known p d (poly p f) e ⌝ }
+    requires { ⌜ MonicModSquare p f d × Known p d (poly p f) e ⌝ }
     ensures { λ r. ⌜ CutOf p f d (r .cut) (r .first) (r .degree) (r .second) (r .rest) ⌝ }
 {
     let q = bar(f, d, p);

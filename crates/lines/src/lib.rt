@@ -8,7 +8,7 @@ ghost use Rattle.specification.specs.Sheets.{sheetOf};
 ghost use Rattle.specification.specs.Promises.{GoodSheet, sheetLimit};
 ghost use Rattle.specification.specs.Text as text;
 ghost use Rattle.factorisation.specs.Members.{All};
-ghost use Rattle.factors.specs.Cut.{Monics};
+ghost use Rattle.factors.specs.Cut.{MonicModSquare};
 ghost use Rattle.verdicts.specs.Given.{listed};
 ghost use Rattle.verdicts.specs.Views.{asVerdict, asFactor, asFactors, asPart};
 ghost use Rattle.pieces.specs.Views.{held};
@@ -213,7 +213,7 @@ fn write_lines(out: &mut [u8], p: u8, d: usize, parts: Parts) -> usize
 
 // The lines for the sheet of p and f, which is of degree d.
 fn answer_text(out: &mut [u8], p: u8, d: usize, f: [u16; 33]) -> usize
-    requires { ⌜ Monics p f d × GoodSheet (sheetOf p (listed d f)) × (textRoom ≤ length (now out)) ⌝ }
+    requires { ⌜ MonicModSquare p f d × GoodSheet (sheetOf p (listed d f)) × (textRoom ≤ length (now out)) ⌝ }
     ensures { λ r. ⌜ Wrote (now (out .entry)) (now (out .exit)) 0 (text.answerText (sheetOf p (listed d f))) r ⌝ }
 {
     let parts = parts::split(f, d, p as u16);

@@ -13,7 +13,7 @@ use Rattle.frobenius.specs.Unsplit.{Unsplit}
 use Rattle.modular.specs.Coefficients.{Represents}
 use Rattle.splitting.specs.declared.Element.{Element}
 use Rattle.splitting.specs.Elements.{Known}
-use Rattle.factors.specs.Cut.{Monics, TwoFactors}
+use Rattle.factors.specs.Cut.{MonicModSquare, TwoFactors}
 use Rattle.verdicts.specs.Given.{listed}
 use Rattle.verdicts.specs.declared.Part.{Part}
 use Rattle.pieces.specs.declared.Parts.{Parts}
@@ -36,7 +36,7 @@ pub record Splitting (p : ℕ) (f : spec.Poly) (pieces : List Piece) (count : �
   pub state : State p f parts (stack noPiece pieces count)
 
 -- a piece that is not cut, with its bar
-pub whole-piece : {p d : ℕ} {a q : List ℕ} → Monics p a d → Represents p q (poly p a) → Unsplit p d (poly p a) → UnsplitPiece p a q d
+pub whole-piece : {p d : ℕ} {a q : List ℕ} → MonicModSquare p a d → Represents p q (poly p a) → Unsplit p d (poly p a) → UnsplitPiece p a q d
 whole-piece m b u = record {
   prime = m .prime;
   positive = m .positive;
@@ -49,7 +49,7 @@ whole-piece m b u = record {
 abbrev pub left : List Piece → ℕ → ℕ
 left pieces count = work (stack noPiece pieces count)
 
-pub splitting-done : {p d : ℕ} {f : List ℕ} {pieces : List Piece} {count : ℕ} {parts : Parts} → Monics p f d → Splitting p (listed d f) pieces count parts
+pub splitting-done : {p d : ℕ} {f : List ℕ} {pieces : List Piece} {count : ℕ} {parts : Parts} → MonicModSquare p f d → Splitting p (listed d f) pieces count parts
     → count ≤ 0 → PartsOf p f d parts
 splitting-done {pieces = pieces} {count = count} m w l =
     state.state-done _ _ _ _ m (subst (State _ _ _) (stack-empty noPiece pieces count (omega arith)) (w .state))
@@ -67,7 +67,7 @@ module _ {p : ℕ} {f : spec.Poly} {pieces : List Piece} {count : ℕ} {parts : 
   opened : State p f parts (x ∷ rest)
   opened = subst (State p f parts) whole (w .state)
 
-  pub top : Monics p (x .coefs) (x .degree)
+  pub top : MonicModSquare p (x .coefs) (x .degree)
   top = state.top p f parts x rest opened
 
   pub top-element : Known p (x .degree) (poly p (x .coefs)) (x .element)

@@ -21,7 +21,7 @@ use Rattle.modular.specs.Coefficients.{Size}
 use Rattle.polynomial.specs.Accepted.{proper-prime, proper-reduced}
 use Rattle.polynomial.specs.RecordLaws.{getD-trim, length-trim}
 use Rattle.polynomial.specs.DivisionResult.{monic-size, monic-array}
-use Rattle.factors.specs.Cut.{Monics}
+use Rattle.factors.specs.Cut.{MonicModSquare}
 use Rattle.verdicts.specs.Given.{listed}
 use Rattle.verdicts.specs.SplitByItems.{PartHeld}
 use Rattle.verdicts.specs.Views.{asPart}
@@ -64,8 +64,8 @@ module _ (a : PolyRecord) (t : Taken a) {s : ℕ} (z : Size (a .coefficients) s)
   pub positive : 1 < s
   positive = ⊎-elim (λ l. l) (λ l. absurd (t .positive (omega (arith, length-trim z, monic-size z (t .monic))))) (lt-or-le 1 s)
 
-  pub monics : Monics (a .prime) (a .coefficients) (s - 1)
-  monics = record {
+  pub record-monic : MonicModSquare (a .prime) (a .coefficients) (s - 1)
+  record-monic = record {
     prime = proper-prime a (t .proper-is);
     positive = omega (arith, positive);
     fits = omega (arith, z .limit, positive);

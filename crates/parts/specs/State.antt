@@ -17,7 +17,7 @@ use Rattle.factorisation.specs.Members.{All, all-cons, all-tail}
 use Rattle.theorems.specs.MonicLists.{MonicList, to-claims}
 use Rattle.splitting.specs.declared.Element.{Element}
 use Rattle.splitting.specs.Elements.{Known}
-use Rattle.factors.specs.Cut.{Monics, TwoFactors}
+use Rattle.factors.specs.Cut.{MonicModSquare, TwoFactors}
 use Rattle.algebra.specs.TakenPrimes.{is-prime}
 use Rattle.verdicts.specs.Given.{listed}
 use Rattle.verdicts.specs.SplitByItems.{PartHeld}
@@ -52,7 +52,7 @@ pub record PartsOf (p : ℕ) (f : List ℕ) (d : ℕ) (r : Parts) : Type 0 where
 
 -- a piece is monic, and its element, if it is known, splits its bar
 pub record PieceHeld (p : ℕ) (a : Piece) : Type 0 where
-  pub monic : Monics p (a .coefs) (a .degree)
+  pub monic : MonicModSquare p (a .coefs) (a .degree)
   pub element : Known p (a .degree) (poly p (a .coefs)) (a .element)
 
 pub record State (p : ℕ) (f : spec.Poly) (parts : Parts) (S : List Piece) : Type 0 where
@@ -62,17 +62,17 @@ pub record State (p : ℕ) (f : spec.Poly) (parts : Parts) (S : List Piece) : Ty
   pub room : parts .count + weight S ≤ 32
   pub arrays : All (PartHeld p) (held parts)
 
-array-of : {p : ℕ} {a : List ℕ} {d : ℕ} → Monics p a d → MonicArray (p *ℕ p) d a
+array-of : {p : ℕ} {a : List ℕ} {d : ℕ} → MonicModSquare p a d → MonicArray (p *ℕ p) d a
 array-of m = record { fits = m .fits; reduced = m .reduced; monic = m .monic }
 
-given-list : {p : ℕ} {f : List ℕ} {d : ℕ} → Monics p f d → MonicList (p *ℕ p) d (listed d f)
+given-list : {p : ℕ} {f : List ℕ} {d : ℕ} → MonicModSquare p f d → MonicList (p *ℕ p) d (listed d f)
 given-list {p} m = listed-monic (square-large p (is-prime (m .prime) .large)) (array-of m)
 
 -- nothing is claimed of an element that is not known
 not-known : {p d : ℕ} (Q : ℤ[x]/ p) {e : Element} → e .known ≡ false → Known p d Q e
 not-known Q z = record { reduced = λ y. absurd (false≢true (sym z ∙ y)); splits = λ y. absurd (false≢true (sym z ∙ y)) }
 
-pub state-start : (p : ℕ) (f : List ℕ) (d : ℕ) (e : Element) (parts : Parts) → Monics p f d → e .known ≡ false → parts .count ≡ 0
+pub state-start : (p : ℕ) (f : List ℕ) (d : ℕ) (e : Element) (parts : Parts) → MonicModSquare p f d → e .known ≡ false → parts .count ≡ 0
     → State p (listed d f) parts (record { coefs = f; degree = d; element = e } ∷ [])
 unfolding weight
 state-start p f d none parts m z e = record {
@@ -89,7 +89,7 @@ unfolding weight
 pieces-weigh p [] h = omega arith
 pieces-weigh p (a ∷ S) h = omega (arith, h a (here refl) .monic .positive, pieces-weigh p S (all-tail h))
 
-pub state-done : (p : ℕ) (f : List ℕ) (d : ℕ) (parts : Parts) → Monics p f d → State p (listed d f) parts [] → PartsOf p f d parts
+pub state-done : (p : ℕ) (f : List ℕ) (d : ℕ) (parts : Parts) → MonicModSquare p f d → State p (listed d f) parts [] → PartsOf p f d parts
 state-done p f d parts m w = record {
   is = holding-done p (w .prime) (listed d f) parts (given-list m) (w .holding);
   few = omega (arith, w .room);
@@ -97,7 +97,7 @@ state-done p f d parts m w = record {
 }
 
 module _ (p : ℕ) (f : spec.Poly) (parts : Parts) (x : Piece) (S : List Piece) (w : State p f parts (x ∷ S)) where
-  pub top : Monics p (x .coefs) (x .degree)
+  pub top : MonicModSquare p (x .coefs) (x .degree)
   top = w .pieces x (here refl) .monic
 
   pub top-element : Known p (x .degree) (poly p (x .coefs)) (x .element)
@@ -121,10 +121,10 @@ module _ (p : ℕ) (f : spec.Poly) (parts : Parts) (x : Piece) (S : List Piece) 
 
   -- the element of the first is not known
   module _ (a b : List ℕ) (i : ℕ) (none rest : Element) (t : TwoFactors p (x .coefs) (x .degree) a i b) where
-    first : Monics p a i
+    first : MonicModSquare p a i
     first = record { prime = top .prime; positive = t .positive; fits = omega (arith, t .less, top .fits); reduced = t .first; monic = t .monic-first }
 
-    second : Monics p b (x .degree - i)
+    second : MonicModSquare p b (x .degree - i)
     second = record {
       prime = top .prime;
       positive = omega (arith, t .less);

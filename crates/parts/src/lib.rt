@@ -6,7 +6,7 @@ ghost use Rattle.specification.specs.RecordParts as specification;
 ghost use Rattle.algebra.specs.CoefficientLists.{poly};
 ghost use Rattle.frobenius.specs.Unsplit.{Unsplit};
 ghost use Rattle.polynomial.specs.Views.{asRecord};
-ghost use Rattle.factors.specs.Cut.{Monics};
+ghost use Rattle.factors.specs.Cut.{MonicModSquare};
 ghost use Rattle.primary.specs.PartFound.{PartFound};
 ghost use Rattle.parts.specs.State.{PartsOf};
 ghost use Rattle.parts.specs.Records.{PartsAnswered};
@@ -72,7 +72,7 @@ fn no_parts() -> Parts
 
 // The part that q is, of degree d, where it is not cut.
 fn part_of(q: [u16; 33], d: usize, p: u16) -> Part
-    requires { ⌜ Monics p q d × Unsplit p d (poly p q) ⌝ }
+    requires { ⌜ MonicModSquare p q d × Unsplit p d (poly p q) ⌝ }
     ensures { λ r. ⌜ PartFound p q d r ⌝ }
 {
     let e = bar(q, d, p);
@@ -81,7 +81,7 @@ fn part_of(q: [u16; 33], d: usize, p: u16) -> Part
 
 // Items 1 to 9: the parts of f, which is of degree d.
 pub fn split(f: [u16; 33], d: usize, p: u16) -> Parts
-    requires { ⌜ Monics p f d ⌝ }
+    requires { ⌜ MonicModSquare p f d ⌝ }
     ensures { λ r. ⌜ PartsOf p f d r ⌝ }
 {
     let none = unknown();

@@ -12,7 +12,7 @@ use Rattle.specification.specs.Parts.{partsOf}
 use Rattle.specification.specs.Claims as claims
 use Rattle.algebra.specs.Numbers.{square-large}
 use Rattle.algebra.specs.Ring.{CommRing, mul-one, mul-left-comm}
-use Rattle.algebra.specs.Divisibility.{_∣_, Coprime, pow, pow-one, pow-divides, product, product-nil, product-cons, coprime-sym, coprime-divisor, gauss}
+use Rattle.algebra.specs.Divisibility.{_∣_, Coprime, pow, pow-one, pow-divides, product, product-nil, product-one, product-cons, coprime-sym, coprime-divisor, gauss}
 use Rattle.algebra.specs.Residues.{Residues}
 use Rattle.algebra.specs.Polynomials.{PolyRing, _·_}
 use Rattle.algebra.specs.Homomorphisms.{map-homomorphism}
@@ -74,7 +74,7 @@ module _ (p : ℕ) (prime : Prime p) where
     monic = all-cons m (λ Q i. elim i [ ]);
     apart = ((λ Q i. elim i [ ]), tt);
     apart-found = λ Q i F j. elim j [ ];
-    multiplies = ap₂ _·_ (product-nil 𝓐) (product-cons 𝓐 (poly n f) [] ∙ ap (λ a. poly n f · a) (product-nil 𝓐) ∙ mul-one 𝓐 (poly n f))
+    multiplies = ap₂ _·_ (product-nil 𝓐) (product-one 𝓐 (poly n f))
         ∙ 𝓐 .*-one (poly n f);
   }
 

@@ -20,7 +20,7 @@ use Rattle.algebra.specs.CoefficientLists.{poly}
 use Rattle.factorisation.specs.Members.{All}
 use Rattle.theorems.specs.Factors.{degrees, powered}
 use Rattle.pieces.specs.ArrayPieces.{MonicArray}
-use Rattle.factors.specs.Cut.{Monics}
+use Rattle.factors.specs.Cut.{MonicModSquare}
 use Rattle.sheets.specs.Views.{polyIn}
 use Rattle.reading.specs.declared.Candidate.{Candidate}
 use Rattle.reading.specs.declared.Coefficients.{Coefficients}
@@ -69,6 +69,6 @@ pub record ProductOf (bytes : List ℕ) (n : ℕ) (r : Grown) : Type 0 where
 
 -- "the answer to" a sheet can be that of the candidate only
 pub record CandidateOf (bytes : List ℕ) (r : Candidate) : Type 0 where
-  pub sound : r .found ≡ true → Monics (r .prime) (r .coefs) (r .degree)
+  pub sound : r .found ≡ true → MonicModSquare (r .prime) (r .coefs) (r .degree)
   pub good : r .found ≡ true → GoodSheet (sheetOf (r .prime) (polyIn (r .degree) (r .coefs)))
   pub exact : (s : Sheet) → GoodSheet s → bytes ≡ answers.answer s → (r .found ≡ true) × (s ≡ sheetOf (r .prime) (polyIn (r .degree) (r .coefs)))

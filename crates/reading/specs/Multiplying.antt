@@ -12,7 +12,7 @@ use Rattle.specification.specs.Limits.{degreeLimit}
 use Rattle.specification.specs.Parts.{Factor}
 use Rattle.specification.specs.Answers.{factorBytes}
 use Rattle.algebra.specs.Ring.{CommRing, mul-one}
-use Rattle.algebra.specs.Divisibility.{pow, product, product-nil, product-cons}
+use Rattle.algebra.specs.Divisibility.{pow, product, product-nil, product-one, product-cons}
 use Rattle.algebra.specs.Residues.{Residues}
 use Rattle.algebra.specs.Polynomials.{PolyRing, _·_, 𝟏}
 use Rattle.algebra.specs.Degree.{monic-one}
@@ -77,7 +77,7 @@ module _ (n : ℕ) where
   -- a factor by itself
   pub one-product : (q : Factor) → productOf (one q ∷ []) ≡ powered n q
   unfolding factorsOf
-  one-product q = product-cons 𝓐 (powered n q) [] ∙ ap (λ a. powered n q · a) (product-nil 𝓐) ∙ mul-one 𝓐 (powered n q)
+  one-product q = product-one 𝓐 (powered n q)
 
   product-items : (x : Item) (xs : List Item) → productOf (x ∷ xs) ≡ productOf (x ∷ []) · productOf xs
   unfolding factorsOf

@@ -18,7 +18,7 @@ use Rattle.theorems.specs.MonicLists.{MonicList, from-claims, monic-poly}
 use Rattle.theorems.specs.SheetsRead.{read-is-good}
 use Rattle.theorems.specs.SheetLength.{fault-number}
 use Rattle.polynomial.specs.RecordLaws.{length-pad, getD-pad, poly-pad}
-use Rattle.factors.specs.Cut.{Monics}
+use Rattle.factors.specs.Cut.{MonicModSquare}
 use Rattle.sheets.specs.declared.SheetRead.{SheetRead}
 use Rattle.sheets.specs.Views.{sheetRead, polyIn}
 
@@ -34,8 +34,8 @@ module _ (s : Sheet) (g : GoodSheet s) where
       take-take (suc (degree (s .poly))) coefficientCount (s .poly ++ replicate coefficientCount 0) (omega (arith, g .fits))
       ∙ take-at (s .poly) (replicate coefficientCount 0) (suc (degree (s .poly))) long
 
-  good-monics : Monics (s .prime) (pad (s .poly)) (degree (s .poly))
-  good-monics = record {
+  good-monic : MonicModSquare (s .prime) (pad (s .poly)) (degree (s .poly))
+  good-monic = record {
     prime = passes (taken (s .prime)) (g .prime);
     positive = g .monic .positive;
     fits = omega (arith, g .fits);
@@ -61,7 +61,7 @@ module _ (s : Sheet) (g : GoodSheet s) where
 pub record Read (bytes : List ℕ) (r : SheetRead) : Type 0 where
   pub place : r .place ≡ 0
   pub reading : readSheet bytes ≡ accepted (sheetOf (r .prime) (polyIn (r .degree) (r .coefs)))
-  pub monics : Monics (r .prime) (r .coefs) (r .degree)
+  pub monic : MonicModSquare (r .prime) (r .coefs) (r .degree)
 
 -- another number: "the zero polynomial of prime 2"
 pub record Refused (bytes : List ℕ) (r : SheetRead) : Type 0 where
@@ -75,7 +75,7 @@ module _ (bytes : List ℕ) where
   answered (accepted s) e z = record {
     place = refl;
     reading = e ∙ ap (λ (f : Poly). accepted (sheetOf (s .prime) f)) (sym (good-in s good));
-    monics = good-monics s good;
+    monic = good-monic s good;
   }
     where
       good : GoodSheet s

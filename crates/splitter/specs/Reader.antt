@@ -18,7 +18,7 @@ use Rattle.algebra.specs.TakenPrimes.{square-fits-byte}
 use Rattle.theorems.specs.SheetsRead.{read-is-good}
 use Rattle.theorems.specs.SheetsBothWays.{written-is-read}
 use Rattle.theorems.specs.Term3.{reader-exact, reader-refuses}
-use Rattle.factors.specs.Cut.{Monics}
+use Rattle.factors.specs.Cut.{MonicModSquare}
 use Rattle.verdicts.specs.Given.{listed}
 use Rattle.pieces.specs.Order.{Answers}
 use Rattle.writing.specs.Area.{Wrote, wrote-from-start}
@@ -75,5 +75,5 @@ module _ (area : ℕ) (bytes : List ℕ) (l : answerArea ≤ area) {c : Candidat
 -- ---- the sheet written
 
 -- a value is one byte
-pub entry-byte : {p : ℕ} {f : List ℕ} {d : ℕ} → Monics p f d → (k : ℕ) → k < d → getD f k 0 < 256
+pub entry-byte : {p : ℕ} {f : List ℕ} {d : ℕ} → MonicModSquare p f d → (k : ℕ) → k < d → getD f k 0 < 256
 entry-byte {p} m k l = omega (arith, m .reduced .low k, square-fits-byte p (m .prime))

@@ -7,7 +7,7 @@ ghost use Rattle.specification.specs.Limits.{answerArea};
 ghost use Rattle.specification.specs.Sheets.{sheetOf};
 ghost use Rattle.specification.specs.Answers.{answer};
 ghost use Rattle.specification.specs.Calls.{splitCall, readCall};
-ghost use Rattle.factors.specs.Cut.{Monics};
+ghost use Rattle.factors.specs.Cut.{MonicModSquare};
 ghost use Rattle.verdicts.specs.Given.{listed};
 ghost use Rattle.pieces.specs.Order.{Answers};
 ghost use Rattle.writing.specs.Area.{Wrote};
@@ -51,7 +51,7 @@ fn refused(number: u8, place: usize) -> Outcome
 
 // The answer to the sheet of p and f, from the start of the area on; f is of degree d.
 fn answer_to(out: &mut [u8], p: u8, d: usize, f: [u16; 33]) -> usize
-    requires { ⌜ Monics p f d × (answerArea ≤ length (now out)) ⌝ }
+    requires { ⌜ MonicModSquare p f d × (answerArea ≤ length (now out)) ⌝ }
     ensures { λ r. ⌜ Wrote (now (out .entry)) (now (out .exit)) 0 (answer (sheetOf p (listed d f))) r ⌝ }
 {
     let parts = parts::split(f, d, p as u16);
@@ -93,7 +93,7 @@ fn same_bytes(a: &[u8], b: &[u8], count: usize) -> bool
 
 // The bytes are the answer to the sheet of p and f, of degree d.
 fn is_answer(bytes: &[u8], p: u8, d: usize, f: [u16; 33]) -> bool
-    requires { ⌜ Monics p f d ⌝ }
+    requires { ⌜ MonicModSquare p f d ⌝ }
     ensures { λ r. ⌜ Answers r (now (bytes .entry) ≡ answer (sheetOf p (listed d f))) ⌝ }
 {
     let mut own = [0u8; AREA];

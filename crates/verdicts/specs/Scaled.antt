@@ -1,24 +1,20 @@
 -- Item 8: w/m modulo p, by the table of inverses.
 -- Proves that the table's entry at m modulo p is, modulo p, the specification's inverse of m. Assumes nothing.
-use mathlib.Core.Path.{_≡_, sym, _∙_, ap, ap₂}
+use mathlib.Core.Path.{_≡_, sym, _∙_, ap}
 use mathlib.Core.List.{List}
 use mathlib.Core.Logic.{_≢_}
 use Prim.Native.Nat.{ℕ, _<_, _%_, _*_ as _*ℕ_}
 use native.Mathlib.Nat.{mod-lt, mod-mod, mod-eq-of-lt, mod-mod-of-dvd, dvd-mul-right, mul-le-mul-left}
 use native.Mathlib.Omega.{arith}
-use lib.ListN.{replicate}
 use Rattle.specification.specs.Polynomials.{scale}
 use Rattle.specification.specs.Inverses.{inverse}
 use Rattle.algebra.specs.Numbers.{mul-mod-mod, mod-mul-mod}
-use Rattle.algebra.specs.Ring.{zero-add}
-use Rattle.algebra.specs.Residues.{residue, Residues, residue-mod}
-use Rattle.algebra.specs.Polynomials.{PolyRing, _+_, _·_, constant}
+use Rattle.algebra.specs.Residues.{residue, residue-mod}
+use Rattle.algebra.specs.Polynomials.{_·_, constant}
 use Rattle.algebra.specs.Degree.{Below, below-constant-mul}
 use Rattle.algebra.specs.CoefficientLists.{poly, poly-scale}
-use Rattle.algebra.specs.ListDivision.{poly-zeros}
 use Rattle.inverses.specs.Rule.{Rule}
 use Rattle.inverses.specs.Unique.{inverse-is}
-use Rattle.algebra.specs.Monomials.{x^, shift-zero}
 use Rattle.modular.specs.Coefficients.{Represents}
 
 pub scaled-below : (p c : ℕ) (w : List ℕ) {s : ℕ} → 1 < p → Below s (poly p w) → Below s (poly p (scale p c w))
@@ -44,11 +40,9 @@ module _ (p m : ℕ) (large : 1 < p) (unit : m % p ≢ 0) where
 
   -- item 8: "u = w/m modulo p"
   pub divided-by : (c : ℕ) → Rule p (m % p) c → (w : List ℕ) {r : List ℕ}
-      → Represents p r (poly p (replicate 33 0) + constant (residue p c) · (x^ 0 · poly p w)) → Represents p r (poly p (scale p (inverse p m) w))
+      → Represents p r (constant (residue p c) · poly p w) → Represents p r (poly p (scale p (inverse p m) w))
   divided-by c rule w h = record {
     reduced = h .reduced;
-    is = h .is ∙ ap₂ (λ a b. a + constant (residue p c) · b) (poly-zeros p 33) (shift-zero (poly p w))
-        ∙ zero-add (PolyRing (Residues p)) (constant (residue p c) · poly p w)
-        ∙ ap (λ a. constant a · poly p w) (sym (residue-mod p (omega arith) c) ∙ ap (residue p) (sym (inverse-entry c rule)))
+    is = h .is ∙ ap (λ a. constant a · poly p w) (sym (residue-mod p (omega arith) c) ∙ ap (residue p) (sym (inverse-entry c rule)))
         ∙ sym (poly-scale p (omega arith) (inverse p m) w);
   }

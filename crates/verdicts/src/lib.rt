@@ -23,6 +23,7 @@ use inverses::inverse;
 use modular::add_multiple;
 use modular::difference;
 use modular::divide;
+use modular::multiple;
 use modular::over;
 use modular::product;
 use modular::reduce;
@@ -129,7 +130,7 @@ fn divided_by_exponent(w: [u16; 33], s: usize, m: usize, p: u16) -> [u16; 33]
 {
     let a = reduce(p, m as u64);
     let c = inverse(p as u8, a);
-    add_multiple([0u16; 33], c, w, 0, s, p)
+    multiple(c, w, s, p)
 }
 
 // Item 8: "p does not divide m and m1 = m − 1".

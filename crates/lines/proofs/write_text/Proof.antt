@@ -31,7 +31,7 @@ write-text-spec =
     let read = c .before .before .before .before in
     let start = read .before .before .before in
     let accepted = read-accepted (start .args .sheet .now) _ (read .read-sheet .ensures) (c .before .before .if1 .left) in
-    (accepted .monics, read-is-good _ _ (accepted .reading), start .pre))  -- answer-text-requires
+    (accepted .monic, read-is-good _ _ (accepted .reading), start .pre))  -- answer-text-requires
     (λ c. search needs)  -- same-length-2
     (λ c.
     let read = c .before .before .before .before .before .before .before in

@@ -3,7 +3,7 @@
 use mathlib.Core.Path.{sym, _∙_}
 use native.Mathlib.Omega.{arith}
 use borrow.Author.Needs.{needs}
-use Rattle.parts.specs.Records.{number-zero, positive, monics, parts-answered, parts-refused}
+use Rattle.parts.specs.Records.{number-zero, positive, record-monic, parts-answered, parts-refused}
 use Rattle.parts.proofs.parts_of.Statement.{statement}
 use Rattle.parts.proofs.parts_of.Tie as tie
 
@@ -19,7 +19,7 @@ parts-of-spec =
           (c .size .ensures),
     ))  -- sub-split
     (λ c. search needs)  -- cast-split
-    (λ c κs. monics _ (number-zero _ (sym (c .before .before .before .before .parts-number .ensures) ∙ c .before .before .before .if1 .taken))
+    (λ c κs. record-monic _ (number-zero _ (sym (c .before .before .before .before .parts-number .ensures) ∙ c .before .before .before .if1 .taken))
     (c .before .size .ensures))  -- split-requires
     (λ c κs. search needs)  -- no-parts-requires
     (λ c.

@@ -19,7 +19,7 @@ split-spec =
     called-refused (split-refused _ _ (c .before .before .before .before .if1 .left) (r .reading)) (c .refused2 .ensures))  -- returns-2
     (λ c κs.
     let r = read-accepted _ _ (c .before .before .before .before .read-sheet .ensures) (c .before .before .if2 .left) in
-    (r .monics, c .before .before .before .before .before .if1 .left))  -- answer-to-requires
+    (r .monic, c .before .before .before .before .before .if1 .left))  -- answer-to-requires
     (λ c κs. search needs)  -- success-requires
     (λ c. search needs)  -- same-length
     (λ c.

@@ -2,7 +2,6 @@
 -- Assumes nothing.
 use native.Mathlib.Omega.{arith}
 use borrow.Author.Needs.{needs}
-use Rattle.modular.specs.Coefficients.{zeros}
 use Rattle.algebra.specs.TakenPrimes.{is-prime, fits-byte}
 use Rattle.verdicts.specs.Scaled.{divided-by}
 use Rattle.verdicts.proofs.divided_by_exponent.Statement.{statement}
@@ -17,8 +16,8 @@ divided-by-exponent-spec =
     (λ c κs. search needs)  -- inverse-requires
     (λ c κs.
     let pre = c .before .before .pre in
-    (zeros _ (omega (arith, is-prime (pre .0) .large)) .reduced, pre .3, omega (arith, pre .2)))  -- add-multiple-requires
+    (omega (arith, is-prime (pre .0) .large), pre .2, pre .3))  -- multiple-requires
     (λ c.
     let pre = c .before .before .before .pre in
     divided-by _ _ (is-prime (pre .0) .large) (pre .1) _ (rw (c .before .before .reduce .ensures .0) at (c .before .inverse .ensures .rule (pre .0))) _
-    (c .add-multiple .ensures)))  -- returns
+    (c .multiple .ensures)))  -- returns
