@@ -49,7 +49,8 @@ whole-piece m b u = record {
 abbrev pub left : List Piece → ℕ → ℕ
 left pieces count = work (stack noPiece pieces count)
 
-pub splitting-done : {p d : ℕ} {f : List ℕ} {pieces : List Piece} {count : ℕ} {parts : Parts} → MonicModSquare p f d → Splitting p (listed d f) pieces count parts
+pub splitting-done : {p d : ℕ} {f : List ℕ} {pieces : List Piece} {count : ℕ} {parts : Parts} → MonicModSquare p f d
+    → Splitting p (listed d f) pieces count parts
     → count ≤ 0 → PartsOf p f d parts
 splitting-done {pieces = pieces} {count = count} m w l =
     state.state-done _ _ _ _ m (subst (State _ _ _) (stack-empty noPiece pieces count (omega arith)) (w .state))

@@ -12,7 +12,8 @@ use Rattle.specification.specs.Parts.{partsOf}
 use Rattle.specification.specs.Claims as claims
 use Rattle.algebra.specs.Numbers.{square-large}
 use Rattle.algebra.specs.Ring.{CommRing, mul-one, mul-left-comm}
-use Rattle.algebra.specs.Divisibility.{_∣_, Coprime, pow, pow-one, pow-divides, product, product-nil, product-one, product-cons, coprime-sym, coprime-divisor, gauss}
+use Rattle.algebra.specs.Divisibility.{_∣_, Coprime, pow, pow-one, pow-divides, coprime-sym, coprime-divisor, gauss}
+use Rattle.algebra.specs.Divisibility.{product, product-nil, product-one, product-cons}
 use Rattle.algebra.specs.Residues.{Residues}
 use Rattle.algebra.specs.Polynomials.{PolyRing, _·_}
 use Rattle.algebra.specs.Homomorphisms.{map-homomorphism}

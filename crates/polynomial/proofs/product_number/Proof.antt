@@ -30,7 +30,8 @@ product-number-spec =
     (λ c κs. search needs)  -- pair-number-requires
     (λ c.
     let d = c .before .before in
-    rw (by-sizes _ _ (sym (d .pair-number .ensures) ∙ c .before .if1 .taken) (d .before .before .size .ensures) (d .before .size2 .ensures), c .if2 .taken))  -- returns
+    let pair = sym (d .pair-number .ensures) ∙ c .before .if1 .taken in
+    rw (by-sizes _ _ pair (d .before .before .size .ensures) (d .before .size2 .ensures), c .if2 .taken))  -- returns
     (λ c.
     let d = c .before .before .before in
     let s = d .before .before .size in
