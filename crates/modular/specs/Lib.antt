@@ -5,6 +5,7 @@ pub mod Multiples
 pub mod Arrays
 pub mod AddMultiple
 pub mod Product
+pub mod Terms
 pub mod Division
 pub mod Over
 pub mod Inverse

@@ -134,16 +134,13 @@ pub fn divide(a: [u16; 33], s: usize, b: [u16; 33], d: usize, n: u16) -> Divided
     requires { ⌜ Reduced n 33 a × (s ≤ 33) × (d < 33) × Below s (poly n a) × Monic d (poly n b) ⌝ }
     ensures { λ r. ⌜ DividedBy n a b d (r .quotient) (r .remainder) ⌝ }
 {
-    let mut unit = [0u16; 33];
-    unit[0] = 1;
     let mut q = [0u16; 33];
     let mut w = a;
     let mut i = s;
     while d < i {
         let k = i - 1 - d;
         let c = w[i - 1];
-        let v = add_multiple(q, c, unit, k, 1, n);
-        q = v;
+        q[k] = c;
         let u = add_multiple(w, n - c, b, k, d + 1, n);
         w = u;
         i -= 1;
