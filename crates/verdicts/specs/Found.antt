@@ -27,6 +27,7 @@ pub record Found (p : ℕ) (base g : List ℕ) (d m : ℕ) (part : List ℕ) (k 
   pub below : Below ((m - k) *ℕ d) (poly p w)
 
 module _ {p : ℕ} {base g : List ℕ} {d m : ℕ} {part : List ℕ} (given : Given p base g d m part) where
+  -- the lists of the arrays: of G, of g and of the part
   abbrev G : List ℕ
   G = listed d base
 

@@ -45,6 +45,7 @@ monic-held {n} {e} m room h = (
 )
 
 module _ {p : ℕ} {base g : List ℕ} {d m : ℕ} {part : List ℕ} (given : Given p base g d m part) where
+  -- the lists of the arrays: of G, of g and of the part
   abbrev G : List ℕ
   G = listed d base
 
