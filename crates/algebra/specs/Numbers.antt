@@ -1,4 +1,4 @@
--- Facts on natural numbers that the kit's library lacks: that a < b or b ≤ a, remainders inside a remainder, that p² is above 1, and what k·d
+-- Facts on natural numbers that the kit's library lacks: that a < b or b ≤ a, remainders inside a remainder, that p² is above 1 and not below p, and what k·d
 -- leaves of m·d. Assumes nothing.
 use mathlib.Core.Path.{_≡_, sym, _∙_, ap}
 use mathlib.Core.Logic.{_⊎_, inl, inr, ⊎-elim}
@@ -24,6 +24,10 @@ pub ruleset modulo = (mod-add-mod, add-mod-mod, mod-mul-mod, mul-mod-mod, mod-mo
 
 pub square-large : (p : ℕ) → 1 < p → 1 < p * p
 square-large p large = omega (arith, mul-le-mul-left p (let l : 1 ≤ p = omega arith in l))
+
+pub square-least : (p : ℕ) → p ≤ p * p
+square-least zero = zero-le
+square-least (suc p) = omega (arith, mul-le-mul-left (suc p) (let l : 1 ≤ suc p = omega arith in l))
 
 pub rest-multiple : {k m : ℕ} (d : ℕ) → k ≤ m → (m - k) * d + k * d ≡ m * d
 rest-multiple {k} {m} d l =

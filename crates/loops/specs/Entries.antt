@@ -1,5 +1,5 @@
 -- Loops that store into an array entry by entry: `Replaced d f a k r i` says that r is a with the entries from k up to i replaced by
--- f's values. Proves how such a loop begins and goes on, and what holds of every entry of r. Assumes nothing.
+-- f's values. Proves how such a loop begins and goes on, upwards and downwards, and what holds of every entry of r. Assumes nothing.
 use mathlib.Core.Path.{_≡_, refl, _∙_}
 use mathlib.Core.List.{List}
 use Prim.Native.Nat.{ℕ, _+_, _<_, _≤_}
@@ -34,6 +34,21 @@ module _ {A : Type 0} where
       at : (j : ℕ) → k ≤ j → j < i + 1 → Dec (j ≡ i) → getD (set r i v) j d ≡ f j
       at j l u (yes q) = rw q (getD-set-same r i v d (omega (arith, w .len)) ∙ e)
       at j l u (no q) = getD-set-other r i j v d q ∙ w .new j l (omega (arith, q))
+
+  -- one more entry at the lower end
+  pub replaced-down : {d : A} {f : ℕ → A} {a : List A} {k : ℕ} {r : List A} {i : ℕ} {v : A} →
+      Replaced d f a (k + 1) r i → k < length a → v ≡ f k → Replaced d f a k (set r k v) i
+  replaced-down {d} {f} {a} {k} {r} {i} {v} w h e = record {
+    reach = omega (arith, w .reach);
+    len = length-set r k v ∙ w .len;
+    below = λ j l. getD-set-other r k j v d (omega arith) ∙ w .below j (omega arith);
+    new = λ j l u. at j l u (ℕ-discrete j k);
+    above = λ j l. getD-set-other r k j v d (omega (arith, w .reach)) ∙ w .above j l;
+  }
+    where
+      at : (j : ℕ) → k ≤ j → j < i → Dec (j ≡ k) → getD (set r k v) j d ≡ f j
+      at j l u (yes q) = rw q (getD-set-same r k v d (omega (arith, w .len)) ∙ e)
+      at j l u (no q) = getD-set-other r k j v d q ∙ w .new j (omega (arith, q)) u
 
   -- what holds of the entries of a below k and from i on, and of the new ones between, holds of every entry of r
   pub replaced-each : {d : A} {f : ℕ → A} {a : List A} {k : ℕ} {r : List A} {i : ℕ} (P : ℕ → A → Type 0) → Replaced d f a k r i

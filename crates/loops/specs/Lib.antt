@@ -1,3 +1,4 @@
 pub mod Entries
 pub mod Places
+pub mod Parts
 pub mod Cases
