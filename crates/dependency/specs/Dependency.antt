@@ -1,20 +1,22 @@
--- The search of `least_dependency`: `Images p d images`, what it is given; `DependencyFound`, what it finds; `Searching`, its loop: the rows span the images of
--- x^first, .., x^(i − 1), and these are independent.
+-- The search of `least_dependency`: `Images p d images`, what it is given; `DependencyFound`, what it finds; its loop, `Searching`: the rows span the images of
+-- x^first, .., x^(i − 1), and these are independent; and `InHand`: the image of x^i is being reduced by them.
 -- Proves that the loop begins so, goes on so, and ends with the least dependency or with none. Assumes nothing.
-use mathlib.Core.Path.{_≡_, _∙_, subst}
-use mathlib.Core.Bool.{true, false, true≢false, false≢true}
+use mathlib.Core.Path.{_≡_, _∙_}
+use mathlib.Core.Bool.{Bool, true, false, true≢false}
 use mathlib.Core.List.{List, []}
 use Prim.Native.Nat.{ℕ, suc, _<_, _≤_, _-_, _+_ as _+ℕ_}
 use native.Mathlib.Nat.{le-refl}
 use native.Mathlib.Numerals.{add-one}
 use native.Mathlib.Omega.{arith}
+use lib.Dec.{ltb}
 use lib.ListN.{length, getD, replicate, length-replicate}
+use borrow.Author.Tests.{ltb-true, ltb-false}
 use Rattle.algebra.specs.Polynomials.{𝟎}
-use Rattle.algebra.specs.Degree.{Below, Monic, below-zero}
+use Rattle.algebra.specs.Degree.{Below, below-zero}
 use Rattle.algebra.specs.Fields.{Prime, prime-pos}
 use Rattle.algebra.specs.CoefficientLists.{ℤ[x]/, poly, Reduced}
 use Rattle.frobenius.specs.LinearMaps.{apply}
-use Rattle.frobenius.specs.RowReduction.{Between, Stage, Reducing, reducing-none}
+use Rattle.frobenius.specs.RowReduction.{Between, Stage, reducing-none, reducing-down}
 use Rattle.frobenius.specs.LeastDependency.{LeastDependency, stage-found}
 use Rattle.modular.specs.Coefficients.{Size, below-size}
 use Rattle.modular.specs.Arrays.{size-small}
@@ -22,8 +24,8 @@ use Rattle.dependency.specs.declared.Image.{Image}
 use Rattle.dependency.specs.declared.Row.{Row}
 use Rattle.dependency.specs.declared.Found.{Found}
 use Rattle.dependency.specs.Monomials.{IsMonomial}
-use Rattle.dependency.specs.Rows.{free, imageAt, preimageAt, ReducedRows, stage-free, free-reduced}
-use Rattle.dependency.specs.Reduction.{ReducedBy}
+use Rattle.dependency.specs.Rows.{past, free, imageAt, preimageAt, ReducedRows, slot-free, stage-free, free-reduced}
+use Rattle.dependency.specs.Reduction.{ReducedTo}
 use Rattle.dependency.specs.Storing.{Stored, reduced-stored, stage-stored}
 
 -- the coefficients of the image of x^k
@@ -58,6 +60,19 @@ pub record Searching (p : ℕ) (images : List Image) (first d i : ℕ) (rows : L
   pub reduced : ReducedRows p rows
   pub stage : Stage (imageOf p images) d d first (imageAt p rows) (preimageAt p rows) i
 
+-- the image of x^i is in hand, reduced to k terms, unless it is fresh
+pub record InHand (p : ℕ) (images : List Image) (first d i : ℕ) (rows : List Row) (image preimage : List ℕ) (k : ℕ) (fresh : Bool) : Type 0 where
+  pub limit : k ≤ 33
+  pub reduced : fresh ≡ false → ReducedTo p (imageOf p images) first d i rows k (record { image = image; preimage = preimage })
+
+module _ {p : ℕ} {images : List Image} {first d i : ℕ} {rows : List Row} {image preimage : List ℕ} {k : ℕ} where
+  pub none-in-hand : k ≤ 33 → InHand p images first d i rows image preimage k true
+  none-in-hand l = record { limit = l; reduced = λ q. absurd (true≢false q) }
+
+  pub in-hand : {fresh : Bool} → ReducedTo p (imageOf p images) first d i rows k (record { image = image; preimage = preimage })
+      → InHand p images first d i rows image preimage k fresh
+  in-hand R = record { limit = R .size .limit; reduced = λ q. R }
+
 pub searching-none : {p : ℕ} {images : List Image} {first d : ℕ} {rows : List Row} → Prime p → first ≤ d → rows ≡ replicate 33 free
     → Searching p images first d first rows
 searching-none {p} {first = first} P l e = rw e (record {
@@ -68,52 +83,55 @@ searching-none {p} {first = first} P l e = rw e (record {
   stage = stage-free p;
 })
 
--- the image of x^i is reduced to v
-module _ {p : ℕ} (P : Prime p) {images : List Image} {first d i : ℕ} {rows : List Row} {x : List ℕ} {v : Row} {s : ℕ} (l : i < d)
-    (S : Searching p images first d i rows) (X : IsMonomial i x)
-    (R : ReducedBy p d i rows (record { image = coefsOf images i; preimage = x }) v) (Z : Size (v .image) s) where
-  reducing : Reducing (imageOf p images) d d first (imageAt p rows) i (R .terms) (poly p (v .image)) (poly p (v .preimage))
-  reducing = R .reduced .keeps (imageOf p images) first (S .stage) (rw (X p (P .large) .is) (reducing-none (imageOf p images) d d first (S .above) l))
+-- nothing is taken off the image of x^i yet
+pub reduced-none : {p : ℕ} {images : List Image} {first d i : ℕ} {rows : List Row} {x : List ℕ} {k : ℕ} → Prime p → Images p d images → i < d
+    → Searching p images first d i rows → IsMonomial i x → Size (coefsOf images i) k
+    → ReducedTo p (imageOf p images) first d i rows k (record { image = coefsOf images i; preimage = x })
+reduced-none {p} {images} {first} {d} {i} {k = k} P I l S X z = record {
+  reach = reach;
+  image = I .reduced i l;
+  size = z;
+  preimage = X p (P .large) .reduced;
+  reducing = reducing-down (imageOf p images) d d first reach (below-size p z)
+      (rw (X p (P .large) .is) (reducing-none (imageOf p images) d d first (S .above) l));
+}
+  where
+    reach : k ≤ d
+    reach = size-small (I .reduced i l) (I .small i l) z
 
-  pub monic-preimage : Monic i (poly p (v .preimage))
-  monic-preimage = reducing .monic
-
-  pub searching-found : s ≡ 0 → DependencyFound p images first d (record { found = true; degree = i; v = v .preimage })
+-- the image of x^i is reduced to v, with k terms
+module _ {p : ℕ} (P : Prime p) {images : List Image} {first d i : ℕ} {rows : List Row} {k : ℕ} {v : Row} (l : i < d)
+    (S : Searching p images first d i rows) (R : ReducedTo p (imageOf p images) first d i rows k v) where
+  pub searching-found : k ≡ 0 → DependencyFound p images first d (record { found = ltb i d; degree = i; v = v .preimage })
   searching-found e = record {
     found = λ q. record {
-      reduced = R .reduced .preimage;
+      reduced = R .preimage;
       above = S .above;
       within = l;
-      least = stage-found (imageOf p images) d d first (S .stage) reducing (below-zero (rw e at (below-size p Z)));
+      least = stage-found (imageOf p images) d d first (S .stage) (rw e at (R .reducing)) (below-zero (rw e at (below-size p (R .size))));
     };
-    none = λ q. absurd (true≢false q);
+    none = λ q. absurd (omega (arith, ltb-false i d q));
   }
 
-  -- the terms that are left are s
-  same-size : R .terms ≡ s
-  same-size =
-      omega (arith, size-small (R .reduced .image) (below-size p Z) (R .reduced .size), size-small (R .reduced .image) (below-size p (R .reduced .size)) Z)
-
-  pub searching-more : {r : List Row} → 0 < s → Stored p rows v (s - 1) r → Searching p images first d (i +ℕ 1) r
-  searching-more {r} pos h = record {
+  -- its slot is free
+  pub searching-more : {r : List Row} → 0 < k → getD ((getD rows (k - 1) past) .image) (k - 1) 0 ≡ 0 → Stored p rows v (k - 1) r
+      → Searching p images first d (i +ℕ 1) r
+  searching-more pos e h = record {
     above = omega (arith, S .above);
     within = omega arith;
     slots = h .len ∙ S .slots;
     reduced = reduced-stored P (S .reduced) h;
     stage = rw add-one
-        (stage-stored P (S .above) l (omega (arith, same-size, R .reduced .reach)) (omega (arith, same-size)) free (rw next (below-size p Z)) (S .stage)
-        reducing h);
+        (stage-stored P (S .above) l (omega (arith, R .reach)) (omega arith) (slot-free rows (k - 1) (S .stage .slots (k - 1)) (P .large) e)
+        (rw next (below-size p (R .size))) (S .stage) (R .reducing) h);
   }
     where
-      next : suc (s - 1) ≡ s
+      next : suc (k - 1) ≡ k
       next = omega arith
 
-      free : imageAt p rows (s - 1) ≡ 𝟎
-      free = subst (λ k. imageAt p rows (k - 1) ≡ 𝟎) same-size (R .free (omega (arith, same-size)))
-
 pub searching-done : {p : ℕ} {images : List Image} {first d i : ℕ} {rows : List Row} {v : List ℕ} → d ≤ i → Searching p images first d i rows
-    → DependencyFound p images first d (record { found = false; degree = d; v = v })
-searching-done {p} {first = first} {d} {i} l S = record { found = λ q. absurd (false≢true q); none = λ q. rw e at (S .stage .injective) }
+    → DependencyFound p images first d (record { found = ltb i d; degree = i; v = v })
+searching-done {d = d} {i} l S = record { found = λ q. absurd (omega (arith, ltb-true i d q)); none = λ q. rw e at (S .stage .injective) }
   where
     e : i ≡ d
     e = omega (arith, S .within)

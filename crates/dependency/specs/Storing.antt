@@ -12,20 +12,20 @@ use Rattle.algebra.specs.Residues.{ℤ/, residue, Residues}
 use Rattle.algebra.specs.Polynomials.{_·_, 𝟎, constant}
 use Rattle.algebra.specs.Degree.{Below}
 use Rattle.algebra.specs.Fields.{Prime, residue-field}
-use Rattle.algebra.specs.CoefficientLists.{ℤ[x]/, poly, Reduced, coef-poly}
+use Rattle.algebra.specs.CoefficientLists.{ℤ[x]/, poly, coef-poly}
 use Rattle.frobenius.specs.RowReduction.{Stage, Reducing}
 use Rattle.frobenius.specs.LeastDependency.{stage-more}
 use Rattle.modular.specs.Coefficients.{Represents}
 use Rattle.modular.specs.Inverse.{residue-inverse}
 use Rattle.dependency.specs.declared.Row.{Row}
-use Rattle.dependency.specs.Rows.{past, imageAt, preimageAt, ReducedRows}
+use Rattle.dependency.specs.Rows.{past, imageAt, preimageAt, ReducedRow, ReducedRows}
 
 pub record MonicRow (p : ℕ) (v : Row) (k : ℕ) (r : Row) : Type 0 where
   pub scale : ℤ/ p
   pub unit : (Residues p) .mul scale (poly p (v .image) .coef k) ≡ (Residues p) .𝟙
   pub image : poly p (r .image) ≡ constant scale · poly p (v .image)
   pub preimage : poly p (r .preimage) ≡ constant scale · poly p (v .preimage)
-  pub reduced : Reduced p 33 (r .image)
+  pub reduced : ReducedRow p r
 
 pub record Stored (p : ℕ) (rows : List Row) (v : Row) (k : ℕ) (r : List Row) : Type 0 where
   pub row : MonicRow p v k (getD r k past)
@@ -48,14 +48,14 @@ monic-row {p} P {v} {k} c e hu hw = record {
   unit = ap ((Residues p) .mul (residue p c)) (coef-poly p (v .image) k) ∙ residue-inverse P (getD (v .image) k 0) c e;
   image = hu .is;
   preimage = hw .is;
-  reduced = hu .reduced;
+  reduced = record { image = hu .reduced; preimage = hw .reduced };
 }
 
 module _ {p : ℕ} (P : Prime p) {rows : List Row} {v : Row} {k : ℕ} where
   pub reduced-stored : {r : List Row} → ReducedRows p rows → Stored p rows v k r → ReducedRows p r
   reduced-stored {r} R h j l = at (ℕ-discrete j k)
     where
-      at : Dec (j ≡ k) → Reduced p 33 ((getD r j past) .image)
+      at : Dec (j ≡ k) → ReducedRow p (getD r j past)
       at (yes e) = rw e (h .row .reduced)
       at (no ne) = rw (h .other j ne) (R j l)
 

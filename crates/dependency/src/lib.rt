@@ -1,19 +1,20 @@
 // The least dependency of a linear map modulo a prime p, given by the images of the x^i: the monic polynomial of least degree that goes to 0.
 // The images are brought into echelon form, each beside a polynomial that goes to it. What is public is so for the crates
 // above, and no entry point of the library.
-use modular::add_multiple;
+use modular::add_in_place;
 use modular::inverse;
 use modular::multiple;
-use modular::size;
+use modular::size_below;
 ghost use mathlib.Core.Path.{_≡_};
-ghost use Prim.Native.Nat.{_<_, _≤_, _+_ as _+ℕ_};
+ghost use Prim.Native.Nat.{_<_, _≤_, _-_, _+_ as _+ℕ_};
 ghost use lib.ListN.{getD, replicate};
 ghost use Rattle.algebra.specs.Fields.{Prime};
-ghost use Rattle.algebra.specs.Degree.{Below};
+ghost use Rattle.algebra.specs.Degree.{Below, Monic};
 ghost use Rattle.algebra.specs.CoefficientLists.{poly, Reduced};
+ghost use Rattle.modular.specs.Coefficients.{Size};
 ghost use Rattle.dependency.specs.Monomials.{IsMonomial};
-ghost use Rattle.dependency.specs.Rows.{free, Rows};
-ghost use Rattle.dependency.specs.Reduction.{ReducedBy};
+ghost use Rattle.dependency.specs.Rows.{free};
+ghost use Rattle.dependency.specs.Reduction.{TakenOff};
 ghost use Rattle.dependency.specs.Storing.{MonicRow};
 ghost use Rattle.dependency.specs.Dependency.{Images, DependencyFound};
 
@@ -28,7 +29,7 @@ struct Row {
     preimage: [u16; 33],
 }
 
-// A dependency v of the degree given, where there is one.
+// A dependency v of the degree given, where one is found; else both say nothing.
 pub struct Found {
     pub found: bool,
     pub degree: usize,
@@ -57,43 +58,35 @@ fn no_rows() -> [Row; 33]
     [row; 33]
 }
 
-// v reduced by the rows: its leading term is taken off by the row in its slot, until there is none. What is taken off the image is taken off the
-// preimage, and x^i stays its leading term.
-fn reduce_by_rows(rows: [Row; 33], v: Row, i: usize, d: usize, p: u16) -> Row
-    requires { ⌜ (1 < p) × (i ≤ 33) × (d ≤ 33) × Rows p i rows × Reduced p 33 (v .image) × Reduced p 33 (v .preimage) × Below d (poly p (v .image)) ⌝ }
-    ensures { λ r. ⌜ ReducedBy p d i rows v r ⌝ }
+// The leading term of an image of size k is taken off by the row (a, b) in its slot, where b has i terms, and as much off the preimage. Gives the size of
+// the image that is left.
+fn take_off(
+    image: &mut [u16],
+    preimage: &mut [u16],
+    a: &[u16],
+    b: &[u16],
+    k: usize,
+    i: usize,
+    p: u16,
+) -> usize
+    requires { ⌜ (0 < k) × (i ≤ 33) × Reduced p 33 (now image) × Size (now image) k × Reduced p 33 (now preimage)
+        × Reduced p 33 (now a) × Monic (k - 1) (poly p (now a)) × Reduced p 33 (now b) × Below i (poly p (now b)) ⌝ }
+    ensures { λ r. ⌜ TakenOff p k (now (image .entry)) (now (preimage .entry)) (now (a .entry)) (now (b .entry))
+        (now (image .exit)) (now (preimage .exit)) r ⌝ }
 {
-    let mut image = v.image;
-    let mut preimage = v.preimage;
-    let mut k = size(image);
-    while 0 < k {
-        let row = rows[k - 1];
-        let a = row.image;
-        if a[k - 1] == 0 {
-            break;
-        }
-        let b = row.preimage;
-        let c = p - image[k - 1];
-        let u = add_multiple(image, c, a, 0, k, p);
-        let w = add_multiple(preimage, c, b, 0, i, p);
-        image = u;
-        preimage = w;
-        k = size(u);
-    }
-    Row {
-        image: image,
-        preimage: preimage,
-    }
+    let top = k - 1;
+    let c = p - image[top];
+    add_in_place(image, c, a, k, p);
+    add_in_place(preimage, c, b, i, p);
+    size_below(image, top)
 }
 
-// v, with an image of degree k, made monic. The preimage is of degree i.
-fn monic_row(v: Row, k: usize, i: usize, p: u16) -> Row
-    requires { ⌜ Prime p × (k < 33) × (i < 33) × Reduced p 33 (v .image) × (0 < getD (v .image) k 0)
-        × Below (k +ℕ 1) (poly p (v .image)) × Below (i +ℕ 1) (poly p (v .preimage)) ⌝ }
-    ensures { λ r. ⌜ MonicRow p v k r ⌝ }
+// The row of an image a of degree k and a preimage b of degree i, made monic.
+fn monic_row(a: [u16; 33], k: usize, b: [u16; 33], i: usize, p: u16) -> Row
+    requires { ⌜ Prime p × (k < 33) × (i < 33) × Reduced p 33 a × (0 < getD a k 0) × Below (k +ℕ 1) (poly p a)
+        × Reduced p 33 b × Below (i +ℕ 1) (poly p b) ⌝ }
+    ensures { λ r. ⌜ MonicRow p (record { image = a; preimage = b }) k r ⌝ }
 {
-    let a = v.image;
-    let b = v.preimage;
     let c = inverse(a[k], p);
     let u = multiple(c, a, k + 1, p);
     let w = multiple(c, b, i + 1, p);
@@ -103,39 +96,44 @@ fn monic_row(v: Row, k: usize, i: usize, p: u16) -> Row
     }
 }
 
-// The least dependency among the polynomials with terms of degree first to d - 1.
+// The least dependency among the polynomials with terms of degree first to d - 1. Each turn takes up the image of the next x^i, or takes the leading term
+// of the image in hand, which has the size k, off by the row in its slot, or stores it as a row where the slot is free: one loop, so that no rows are copied.
 pub fn least_dependency(images: [Image; 33], first: usize, d: usize, p: u16) -> Found
     requires { ⌜ Prime p × (first ≤ d) × (d ≤ 33) × Images p d images ⌝ }
     ensures { λ r. ⌜ DependencyFound p images first d r ⌝ }
 {
     let mut rows = no_rows();
+    let mut image = [0u16; 33];
+    let mut preimage = [0u16; 33];
+    let mut k: usize = 0;
+    let mut fresh = true;
     let mut i = first;
     while i < d {
-        let image = images[i];
-        let t = image.coefs;
-        let x = monomial(i);
-        let start = Row {
-            image: t,
-            preimage: x,
-        };
-        let v = reduce_by_rows(rows, start, i, d, p);
-        let u = v.image;
-        let w = v.preimage;
-        let s = size(u);
-        if s == 0 {
-            return Found {
-                found: true,
-                degree: i,
-                v: w,
-            };
+        if fresh {
+            let start = images[i];
+            image = start.coefs;
+            preimage = monomial(i);
+            k = size_below(&image, d);
+            fresh = false;
+            continue;
         }
-        let row = monic_row(v, s - 1, i, p);
-        rows[s - 1] = row;
-        i += 1;
+        if k == 0 {
+            break;
+        }
+        let row = rows[k - 1];
+        let a = row.image;
+        if a[k - 1] == 0 {
+            rows[k - 1] = monic_row(image, k - 1, preimage, i, p);
+            i += 1;
+            fresh = true;
+            continue;
+        }
+        let b = row.preimage;
+        k = take_off(&mut image, &mut preimage, &a, &b, k, i, p);
     }
     Found {
-        found: false,
-        degree: d,
-        v: [0u16; 33],
+        found: i < d,
+        degree: i,
+        v: preimage,
     }
 }

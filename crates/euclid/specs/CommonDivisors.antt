@@ -2,16 +2,19 @@
 -- Proves that Euclid's algorithm ends with them, with the cofactors and without. Assumes nothing.
 use mathlib.Core.Path.{_≡_}
 use mathlib.Core.List.{List}
-use Prim.Native.Nat.{ℕ, _≤_}
+use Prim.Native.Nat.{ℕ, _≤_, _-_}
+use native.Mathlib.Omega.{arith}
 use Rattle.algebra.specs.Divisibility.{_∣_, divides-refl, divides-trans, divides-mul, divides-zero}
-use Rattle.algebra.specs.Residues.{Residues}
-use Rattle.algebra.specs.Polynomials.{PolyRing, _·_, 𝟎}
+use Rattle.algebra.specs.Residues.{residue, Residues}
+use Rattle.algebra.specs.Polynomials.{PolyRing, _·_, 𝟎, constant}
 use Rattle.algebra.specs.Degree.{Below, Monic, below-up, below-zero}
 use Rattle.algebra.specs.CoefficientLists.{ℤ[x]/, poly, Reduced}
 use Rattle.algebra.specs.Congruence.{Congruent, congruent-sym, divides-congruent}
 use Rattle.modular.specs.Coefficients.{Size, below-size}
-use Rattle.euclid.specs.Rows.{Formed, Combined}
+use Rattle.euclid.specs.MonicMultiples.{MonicMultipleOf, divides-back}
+use Rattle.euclid.specs.Rows.{MonicRow, Formed, Combined, leaves-monic}
 use Rattle.euclid.specs.Remainders.{Successive, SameDivisors}
+use Rattle.euclid.specs.declared.Row.{Row}
 use Rattle.euclid.specs.declared.Rows.{Rows}
 use Rattle.euclid.specs.declared.Remainders.{Remainders}
 
@@ -31,52 +34,49 @@ pub record CofactorOf (p : ℕ) (a b : List ℕ) (d : ℕ) (g u : List ℕ) : Ty
   pub small : Below d (poly p u)
   pub combination : Congruent (PolyRing (Residues p)) (poly p b) (poly p u · poly p a) (poly p g)
 
--- the latter remainder is 0: what is said of common divisors holds of the former
-former-divides : {p : ℕ} {latter : List ℕ} {s : ℕ} (f : ℤ[x]/ p) {D : Type 0}
-    → (_∣_ (PolyRing (Residues p)) f f → _∣_ (PolyRing (Residues p)) f (poly p latter) → D) → Size latter s → s ≤ 0 → D
-former-divides {p} {latter} f common size l =
-    common (divides-refl (PolyRing (Residues p)) f) (rw nothing (divides-zero (PolyRing (Residues p)) f))
+-- the monic multiple of h is the gcd, where h has the common divisors of a and b
+gcd-of-multiple : {p d e c : ℕ} {a b h g : List ℕ} → MonicMultipleOf p h e g c → e ≤ d
+    → ((k : ℤ[x]/ p) → _∣_ (PolyRing (Residues p)) k (poly p h) → _∣_ (PolyRing (Residues p)) k (poly p a) × _∣_ (PolyRing (Residues p)) k (poly p b))
+    → ((k : ℤ[x]/ p) → _∣_ (PolyRing (Residues p)) k (poly p a) → _∣_ (PolyRing (Residues p)) k (poly p b) → _∣_ (PolyRing (Residues p)) k (poly p h))
+    → GcdOf p a b d g e
+gcd-of-multiple {p} {e = e} {c} {a} {b} {g = g} m limit common greatest = record {
+  reduced = m .multiple .reduced;
+  limit = limit;
+  monic = m .monic;
+  left = both .0;
+  right = both .1;
+  greatest = λ k left right. rw (m .multiple .is) (divides-mul (PolyRing (Residues p)) (constant (residue p c)) (greatest k left right));
+}
   where
-    nothing : poly p latter ≡ 𝟎
+    both : _∣_ (PolyRing (Residues p)) (poly p g) (poly p a) × _∣_ (PolyRing (Residues p)) (poly p g) (poly p b)
+    both = common (poly p g) (divides-back m (poly p g) (divides-refl (PolyRing (Residues p)) (poly p g)))
+
+-- a remainder of size 0 is 0, which everything divides
+divides-nothing : {p : ℕ} {a : List ℕ} {s : ℕ} (k : ℤ[x]/ p) → Size a s → s ≤ 0 → _∣_ (PolyRing (Residues p)) k (poly p a)
+divides-nothing {p} {a} k size l = rw nothing (divides-zero (PolyRing (Residues p)) k)
+  where
+    nothing : poly p a ≡ 𝟎
     nothing = below-zero (below-up l (below-size p size))
 
--- the latter remainder is 0: the former is the gcd
-pub gcd-former : {p d : ℕ} {a b : List ℕ} {w : Rows} → Combined p a b w → Formed p d w → w .size ≤ 0
-    → GcdOf p a b d (w .former .remainder) (w .degree)
-gcd-former {p} {a = a} {b} {w} combined formed l = record {
-  reduced = formed .former .remainder;
-  limit = formed .limit;
-  monic = formed .monic;
-  left = both .0;
-  right = both .1;
-  greatest = λ h left right.
+module _ {p d : ℕ} {a b : List ℕ} {w : Rows} {f : Row} (combined : Combined p a b w) (formed : Formed p d w)
+    (monic : MonicRow p (d - w .degree) (w .degree) (w .former) f) where
+  -- the latter remainder is 0: the former, made monic, is the gcd
+  pub gcd-former : w .size ≤ 0 → GcdOf p a b d (f .remainder) (w .degree)
+  gcd-former l =
+      gcd-of-multiple (monic .remainder) (formed .limit) (λ k h. combined .common k h (divides-nothing k (formed .size) l))
+      (λ k left right.
       divides-congruent (PolyRing (Residues p))
       (congruent-sym (PolyRing (Residues p)) (divides-trans (PolyRing (Residues p)) right (combined .former)))
-      (divides-mul (PolyRing (Residues p)) (poly p (w .former .cofactor)) left);
-}
-  where
-    both : _∣_ (PolyRing (Residues p)) (poly p (w .former .remainder)) (poly p a)
-        × _∣_ (PolyRing (Residues p)) (poly p (w .former .remainder)) (poly p b)
-    both = former-divides (poly p (w .former .remainder)) (combined .common (poly p (w .former .remainder))) (formed .size) l
+      (divides-mul (PolyRing (Residues p)) (poly p (w .former .cofactor)) left))
 
-pub cofactor-former : {p d : ℕ} {a b : List ℕ} {w : Rows} → Combined p a b w → Formed p d w
-    → CofactorOf p a b d (w .former .remainder) (w .former .cofactor)
-cofactor-former combined formed = record {
-  reduced = formed .former .cofactor;
-  small = formed .former .small;
-  combination = combined .former;
-}
+  pub cofactor-former : CofactorOf p a b d (f .remainder) (f .cofactor)
+  cofactor-former = record {
+    reduced = monic .reduced .cofactor;
+    small = below-up (omega arith) (monic .reduced .small);
+    combination = leaves-monic a b monic (combined .former);
+  }
 
-pub gcd-of-remainders : {p d : ℕ} {a b : List ℕ} {w : Remainders} → SameDivisors p a b w → Successive p w → w .degree ≤ d → w .size ≤ 0
-    → GcdOf p a b d (w .former) (w .degree)
-gcd-of-remainders {p} {a = a} {b} {w} same successive limit l = record {
-  reduced = successive .former;
-  limit = limit;
-  monic = successive .monic;
-  left = both .0;
-  right = both .1;
-  greatest = λ h left right. same .down h left right .0;
-}
-  where
-    both : _∣_ (PolyRing (Residues p)) (poly p (w .former)) (poly p a) × _∣_ (PolyRing (Residues p)) (poly p (w .former)) (poly p b)
-    both = former-divides (poly p (w .former)) (same .up (poly p (w .former))) (successive .size) l
+pub gcd-of-remainders : {p d c : ℕ} {a b g : List ℕ} {w : Remainders} → SameDivisors p a b w → Successive p w → w .degree ≤ d → w .size ≤ 0
+    → MonicMultipleOf p (w .former) (w .degree) g c → GcdOf p a b d g (w .degree)
+gcd-of-remainders same successive limit l m =
+    gcd-of-multiple m limit (λ k h. same .up k h (divides-nothing k (successive .size) l)) (λ k left right. same .down k left right .0)

@@ -1,60 +1,63 @@
--- One row of Euclid's algorithm divided by another: `DividedRow p b d e r f z`, where f is monic of degree e, leaves z of r.
--- Proves that the division of the remainders, with the cofactors following it modulo b, gives such a row. Assumes nothing.
-use mathlib.Core.Path.{_≡_, refl}
+-- One row of Euclid's algorithm divided by another: `DividedRow p s e t r f z`, where f, of degree e, leaves z of r, which has s terms.
+-- Proves that the division of the remainders, with the cofactors following it, gives such a row. Assumes nothing.
+use mathlib.Core.Path.{_≡_, refl, _∙_, ap}
 use mathlib.Core.List.{List}
-use Prim.Native.Nat.{ℕ}
+use Prim.Native.Nat.{ℕ, _<_, _-_, _+_ as _+ℕ_}
+use native.Mathlib.Omega.{arith}
 use Rattle.algebra.specs.Ring.{linear1}
 use Rattle.algebra.specs.Identities.{con, _⊕_, _⊖_, _⊗_, _≈_, solve}
 use Rattle.algebra.specs.Residues.{Residues}
 use Rattle.algebra.specs.Polynomials.{PolyRing, _+_, _·_, -_, 𝟏}
-use Rattle.algebra.specs.Degree.{Below, Monic, below-add, below-neg}
+use Rattle.algebra.specs.Degree.{Below, below-up, below-add, below-neg, below-mul}
 use Rattle.algebra.specs.CoefficientLists.{ℤ[x]/, poly}
-use Rattle.algebra.specs.Congruence.{Congruent, congruent-equal, congruent-trans, congruent-add, congruent-mul, congruent-neg}
-use Rattle.modular.specs.Coefficients.{Represents}
-use Rattle.modular.specs.Division.{DividedBy}
-use Rattle.quotients.specs.Remainder.{Remainder}
+use Rattle.algebra.specs.Congruence.{congruent-equal, congruent-add, congruent-mul, congruent-neg}
+use Rattle.modular.specs.Coefficients.{Represents, Size}
+use Rattle.modular.specs.Division.{MonicBy, DividedBy, quotient-terms}
 use Rattle.euclid.specs.Rows.{Leaves, ReducedRow}
 use Rattle.euclid.specs.declared.Row.{Row}
 
--- r has s terms and f is monic of degree e
-pub record Operands (p d s e : ℕ) (r f : Row) : Type 0 where
-  pub dividend : ReducedRow p d r
+-- r has s terms, f is of degree e, and the cofactors have t terms
+pub record Operands (p s e t : ℕ) (r f : Row) : Type 0 where
+  pub dividend : ReducedRow p t r
   pub terms : Below s (poly p (r .remainder))
-  pub divisor : ReducedRow p d f
-  pub monic : Monic e (poly p (f .remainder))
+  pub divisor : ReducedRow p t f
+  pub size : Size (f .remainder) (e +ℕ 1)
 
--- z is r less a multiple of f, and of lower degree than f; the cofactors are taken modulo b
-pub record DividedRow (p : ℕ) (b : List ℕ) (d e : ℕ) (r f z : Row) : Type 0 where
-  pub reduced : ReducedRow p d z
+-- z is r less a multiple of f, and of lower degree than f; its cofactor may have s − 1 − e terms more, the degree of the quotient
+pub record DividedRow (p s e t : ℕ) (r f z : Row) : Type 0 where
+  pub reduced : ReducedRow p (t +ℕ (s - 1 - e)) z
   pub small : Below e (poly p (z .remainder))
   pub quotient : ℤ[x]/ p
   pub law : quotient · poly p (f .remainder) + poly p (z .remainder) ≡ poly p (r .remainder)
-  pub cofactor : Congruent (PolyRing (Residues p)) (poly p b) (poly p (z .cofactor)) (poly p (r .cofactor) + - (quotient · poly p (f .cofactor)))
+  pub cofactor : poly p (z .cofactor) ≡ poly p (r .cofactor) + - (quotient · poly p (f .cofactor))
 
-pub divided-row : {p : ℕ} {b : List ℕ} {d s e : ℕ} {r f : Row} {q w k y : List ℕ} → Operands p d s e r f
-    → DividedBy p (r .remainder) (f .remainder) e q w → Remainder p b d k (poly p q · poly p (f .cofactor))
-    → Represents p y (poly p (r .cofactor) + - poly p k) → DividedRow p b d e r f (record { remainder = w; cofactor = y })
-divided-row {p} {q = q} h division product difference = record {
+-- the quotient has s − e terms
+pub divided-row : {p s e t unit : ℕ} {r f : Row} {q w k y : List ℕ} → e < s → Operands p s e t r f → MonicBy p (f .remainder) e unit
+    → DividedBy p (r .remainder) (f .remainder) e q w → Represents p k (poly p q · poly p (f .cofactor))
+    → Represents p y (poly p (r .cofactor) + - poly p k) → DividedRow p s e t r f (record { remainder = w; cofactor = y })
+divided-row {p} {s} {e} {t} {unit} {r} {f} {q} {y = y} l h by division product difference = record {
   reduced = record {
     remainder = division .remainder;
     cofactor = difference .reduced;
-    small = rw (difference .is) (below-add (h .dividend .small) (below-neg (product .small)));
+    small = rw (cofactor, (PolyRing (Residues p)) .*-comm (poly p q) (poly p (f .cofactor)))
+        (below-add (below-up (omega arith) (h .dividend .small))
+        (below-neg (below-mul (h .divisor .small) (below-up (omega arith) (quotient-terms p (r .remainder) (f .remainder) by (h .terms) division)))));
   };
   small = division .small;
   quotient = poly p q;
   law = division .law;
-  cofactor = rw (difference .is)
-      (congruent-add (PolyRing (Residues p)) (congruent-equal (PolyRing (Residues p)) refl) (congruent-neg (PolyRing (Residues p)) (product .congruent)));
+  cofactor = cofactor;
 }
+  where
+    cofactor : poly p y ≡ poly p (r .cofactor) + - (poly p q · poly p (f .cofactor))
+    cofactor = difference .is ∙ ap (λ k. poly p (r .cofactor) + - k) (product .is)
 
 -- (u − q·v)·a leaves what the one remainder less q times the other is
-pub leaves-divided : (p : ℕ) (a b : List ℕ) {d e : ℕ} {r f z : Row} → DividedRow p b d e r f z → Leaves p a b r → Leaves p a b f → Leaves p a b z
+pub leaves-divided : (p : ℕ) (a b : List ℕ) {s e t : ℕ} {r f z : Row} → DividedRow p s e t r f z → Leaves p a b r → Leaves p a b f → Leaves p a b z
 leaves-divided p a b {r = r} {f} {z} h hr hf =
-    congruent-trans (PolyRing (Residues p))
-    (congruent-mul (PolyRing (Residues p)) (h .cofactor) (congruent-equal (PolyRing (Residues p)) refl))
-    (rw (left, right)
+    rw (h .cofactor, left, right)
     (congruent-add (PolyRing (Residues p)) hr
-    (congruent-neg (PolyRing (Residues p)) (congruent-mul (PolyRing (Residues p)) (congruent-equal (PolyRing (Residues p)) refl) hf))))
+    (congruent-neg (PolyRing (Residues p)) (congruent-mul (PolyRing (Residues p)) (congruent-equal (PolyRing (Residues p)) refl) hf)))
   where
     left : (poly p (r .cofactor) + - (h .quotient · poly p (f .cofactor))) · poly p a
         ≡ poly p (r .cofactor) · poly p a + - (h .quotient · (poly p (f .cofactor) · poly p a))

@@ -1,27 +1,24 @@
 -- Successive remainders of Euclid's algorithm over ℤ/p without cofactors: `Successive`, their shape; `SameDivisors`, their common divisors are those of
 -- a and b; `After p w r`, the remainders r come after w.
--- Proves that the monic multiple of the latter and what it leaves of the former come after the two, and that b and a are the first. Assumes nothing.
+-- Proves that the latter and what it leaves of the former come after the two, and that b and a are the first. Assumes nothing.
 use mathlib.Core.List.{List}
-use Prim.Native.Nat.{ℕ, _≤_, _<_, _-_}
+use Prim.Native.Nat.{ℕ, _≤_, _<_, _+_, _-_}
 use native.Mathlib.Omega.{arith}
-use Rattle.algebra.specs.Divisibility.{_∣_, divides-trans, divides-mul}
-use Rattle.algebra.specs.Residues.{residue, Residues}
-use Rattle.algebra.specs.Polynomials.{PolyRing, constant}
+use Rattle.algebra.specs.Divisibility.{_∣_, divides-mul, divides-add, divides-sub}
+use Rattle.algebra.specs.Residues.{Residues}
+use Rattle.algebra.specs.Polynomials.{PolyRing}
 use Rattle.algebra.specs.Degree.{Below, Monic}
 use Rattle.algebra.specs.CoefficientLists.{ℤ[x]/, poly, Reduced}
-use Rattle.algebra.specs.Congruence.{congruent-sym, divides-congruent}
 use Rattle.modular.specs.Coefficients.{Size}
-use Rattle.modular.specs.Arrays.{size-small}
-use Rattle.quotients.specs.Remainder.{Remainder}
-use Rattle.euclid.specs.MonicMultiples.{MonicMultipleOf, divides-back}
+use Rattle.modular.specs.Arrays.{size-small, size-degree, size-monic}
+use Rattle.modular.specs.Division.{DividedBy}
 use Rattle.euclid.specs.declared.Remainders.{Remainders}
 
--- the former is monic, and the latter of lower degree
+-- the former is not 0, and the latter of lower degree
 pub record Successive (p : ℕ) (w : Remainders) : Type 0 where
   pub former : Reduced p 33 (w .former)
   pub latter : Reduced p 33 (w .latter)
-  pub fits : w .degree < 33
-  pub monic : Monic (w .degree) (poly p (w .former))
+  pub leading : Size (w .former) (w .degree + 1)
   pub size : Size (w .latter) (w .size)
   pub fewer : w .size ≤ w .degree
 
@@ -39,29 +36,23 @@ pub record After (p : ℕ) (w r : Remainders) : Type 0 where
   pub lower : r .degree ≤ w .degree
   pub same : (a b : List ℕ) → SameDivisors p a b w → SameDivisors p a b r
 
-pub after : {p c s : ℕ} {w : Remainders} {f r : List ℕ} → Successive p w → 0 < w .size → MonicMultipleOf p (w .latter) (w .size) f c
-    → Remainder p f (w .size - 1) r (poly p (w .former)) → Size r s → After p w (record { former = f; degree = w .size - 1; latter = r; size = s })
-after {p} {c} {f = f} h pos m left size = record {
+pub after : {p s : ℕ} {w : Remainders} {q r : List ℕ} → Successive p w → 0 < w .size → DividedBy p (w .former) (w .latter) (w .size - 1) q r → Size r s
+    → After p w (record { former = w .latter; degree = w .size - 1; latter = r; size = s })
+after {p} {q = q} h pos divided size = record {
   successive = record {
-    former = m .multiple .reduced;
-    latter = left .reduced;
-    fits = omega (arith, h .fits, h .fewer);
-    monic = m .monic;
+    former = h .latter;
+    latter = divided .remainder;
+    leading = size-degree pos (h .size);
     size = size;
-    fewer = size-small (left .reduced) (left .small) size;
+    fewer = size-small (divided .remainder) (divided .small) size;
   };
-  falls = omega (arith, size-small (left .reduced) (left .small) size);
+  falls = omega (arith, size-small (divided .remainder) (divided .small) size);
   lower = omega (arith, h .fewer);
   same = λ a b before. record {
-    up = λ k hf hr.
-        before .up k
-        (divides-congruent (PolyRing (Residues p))
-        (divides-trans (PolyRing (Residues p)) hf (congruent-sym (PolyRing (Residues p)) (left .congruent))) hr)
-        (divides-back m k hf);
+    up = λ k hf hr. before .up k (rw (← divided .law) (divides-add (PolyRing (Residues p)) (divides-mul (PolyRing (Residues p)) (poly p q) hf) hr)) hf;
     down = λ k ha hb.
         let both = before .down k ha hb in
-        let hf : _∣_ (PolyRing (Residues p)) k (poly p f) = rw (m .multiple .is) (divides-mul (PolyRing (Residues p)) (constant (residue p c)) (both .1)) in
-        (hf, divides-congruent (PolyRing (Residues p)) (divides-trans (PolyRing (Residues p)) hf (left .congruent)) (both .0));
+        (both .1, divides-sub (PolyRing (Residues p)) (divides-mul (PolyRing (Residues p)) (poly p q) (both .1)) (rw (divided .law) (both .0)));
   };
 }
 
@@ -70,8 +61,8 @@ module _ (p : ℕ) (a b : List ℕ) (d s : ℕ) where
   abbrev pub start : Remainders
   start = record { former = b; degree = d; latter = a; size = s }
 
-  pub successive-first : d < 33 → Reduced p 33 a → Reduced p 33 b → Below d (poly p a) → Monic d (poly p b) → Size a s → Successive p start
-  successive-first fits ha hb h m z = record { former = hb; latter = ha; fits = fits; monic = m; size = z; fewer = size-small ha h z }
+  pub successive-first : 1 < p → d < 33 → Reduced p 33 a → Reduced p 33 b → Below d (poly p a) → Monic d (poly p b) → Size a s → Successive p start
+  successive-first l fits ha hb h m z = record { former = hb; latter = ha; leading = size-monic l fits hb m; size = z; fewer = size-small ha h z }
 
   pub same-first : SameDivisors p a b start
   same-first = record { up = λ h hb ha. (ha, hb); down = λ h ha hb. (hb, ha) }

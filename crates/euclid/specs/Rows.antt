@@ -3,7 +3,7 @@
 -- Proves that a row made monic says the same, and that b and a are the first two remainders. Assumes nothing.
 use mathlib.Core.Path.{_≡_, refl, _∙_, ap}
 use mathlib.Core.List.{List, _∷_}
-use Prim.Native.Nat.{ℕ, _≤_, _<_}
+use Prim.Native.Nat.{ℕ, _≤_, _<_, _+_, _-_}
 use native.Mathlib.Nat.{le-refl}
 use native.Mathlib.Omega.{arith}
 use lib.ListN.{replicate}
@@ -16,7 +16,7 @@ use Rattle.algebra.specs.Degree.{Below, Monic, below-up, below-constant-mul, be
 use Rattle.algebra.specs.CoefficientLists.{ℤ[x]/, poly, Reduced}
 use Rattle.algebra.specs.Congruence.{Congruent, congruent-sym, congruent-equal, congruent-mul, congruent-zero}
 use Rattle.modular.specs.Coefficients.{Represents, Size, zeros, unit, below-unit}
-use Rattle.modular.specs.Arrays.{size-small}
+use Rattle.modular.specs.Arrays.{size-small, size-monic}
 use Rattle.euclid.specs.MonicMultiples.{MonicMultipleOf}
 use Rattle.euclid.specs.declared.Row.{Row}
 use Rattle.euclid.specs.declared.Rows.{Rows}
@@ -25,24 +25,24 @@ use Rattle.euclid.specs.declared.Rows.{Rows}
 abbrev pub Leaves : (p : ℕ) → List ℕ → List ℕ → Row → Type 0
 Leaves p a b r = Congruent (PolyRing (Residues p)) (poly p b) (poly p (r .cofactor) · poly p a) (poly p (r .remainder))
 
--- the remainder and the cofactor are reduced, and the cofactor has d terms
-pub record ReducedRow (p d : ℕ) (r : Row) : Type 0 where
+-- the remainder and the cofactor are reduced, and the cofactor has t terms
+pub record ReducedRow (p t : ℕ) (r : Row) : Type 0 where
   pub remainder : Reduced p 33 (r .remainder)
   pub cofactor : Reduced p 33 (r .cofactor)
-  pub small : Below d (poly p (r .cofactor))
+  pub small : Below t (poly p (r .cofactor))
 
--- f is a constant times r, and monic, where r has the size s
-pub record MonicRow (p d s : ℕ) (r f : Row) : Type 0 where
-  pub reduced : ReducedRow p d f
+-- f is a constant times r, and monic of degree e
+pub record MonicRow (p t e : ℕ) (r f : Row) : Type 0 where
+  pub reduced : ReducedRow p t f
   pub unit : ℕ
-  pub remainder : MonicMultipleOf p (r .remainder) s (f .remainder) unit
+  pub remainder : MonicMultipleOf p (r .remainder) e (f .remainder) unit
   pub cofactor : poly p (f .cofactor) ≡ constant (residue p unit) · poly p (r .cofactor)
 
--- the former remainder is monic, and the latter of lower degree
+-- the former remainder is not 0, and the latter of lower degree; where b is of degree d, the former's degree bounds the terms of both cofactors
 pub record Formed (p d : ℕ) (w : Rows) : Type 0 where
-  pub former : ReducedRow p d (w .former)
-  pub latter : ReducedRow p d (w .latter)
-  pub monic : Monic (w .degree) (poly p (w .former .remainder))
+  pub former : ReducedRow p (d - w .degree) (w .former)
+  pub latter : ReducedRow p (d + 1 - w .degree) (w .latter)
+  pub leading : Size (w .former .remainder) (w .degree + 1)
   pub limit : w .degree ≤ d
   pub size : Size (w .latter .remainder) (w .size)
   pub fewer : w .size ≤ w .degree
@@ -65,9 +65,12 @@ first a b d s = record {
 }
 
 module _ {p : ℕ} where
+  pub row-up : {t k : ℕ} {r : Row} → t ≤ k → ReducedRow p t r → ReducedRow p k r
+  row-up l h = record { remainder = h .remainder; cofactor = h .cofactor; small = below-up l (h .small) }
+
   -- the monic multiple of the remainder, with the same multiple of the cofactor
-  pub monic-row : {d s c : ℕ} {r f : Row} → ReducedRow p d r → MonicMultipleOf p (r .remainder) s (f .remainder) c
-      → Represents p (f .cofactor) (constant (residue p c) · poly p (r .cofactor)) → MonicRow p d s r f
+  pub monic-row : {t e c : ℕ} {r f : Row} → ReducedRow p t r → MonicMultipleOf p (r .remainder) e (f .remainder) c
+      → Represents p (f .cofactor) (constant (residue p c) · poly p (r .cofactor)) → MonicRow p t e r f
   monic-row {c = c} h m k = record {
     reduced = record {
       remainder = m .multiple .reduced;
@@ -79,7 +82,7 @@ module _ {p : ℕ} where
     cofactor = k .is;
   }
 
-  pub leaves-monic : (a b : List ℕ) {d s : ℕ} {r f : Row} → MonicRow p d s r f → Leaves p a b r → Leaves p a b f
+  pub leaves-monic : (a b : List ℕ) {t e : ℕ} {r f : Row} → MonicRow p t e r f → Leaves p a b r → Leaves p a b f
   leaves-monic a b {r = r} m h =
       rw (
         m .cofactor,
@@ -89,11 +92,12 @@ module _ {p : ℕ} where
       (congruent-mul (PolyRing (Residues p)) (congruent-equal (PolyRing (Residues p)) refl) h)
 
 module _ (p : ℕ) (a b : List ℕ) (d s : ℕ) where
-  pub formed-first : 1 < p → 0 < d → Reduced p 33 a → Reduced p 33 b → Below d (poly p a) → Monic d (poly p b) → Size a s → Formed p d (first a b d s)
-  formed-first l pos ha hb h m z = record {
-    former = record { remainder = hb; cofactor = (zeros p (omega arith)) .reduced; small = rw ((zeros p (omega arith)) .is) (below-𝟎 d) };
-    latter = record { remainder = ha; cofactor = (unit p l) .reduced; small = below-up pos (below-unit p 32) };
-    monic = m;
+  -- 0 has no terms, and 1 has one
+  pub formed-first : 1 < p → d < 33 → Reduced p 33 a → Reduced p 33 b → Below d (poly p a) → Monic d (poly p b) → Size a s → Formed p d (first a b d s)
+  formed-first l fits ha hb h m z = record {
+    former = record { remainder = hb; cofactor = (zeros p (omega arith)) .reduced; small = rw ((zeros p (omega arith)) .is) (below-𝟎 (d - d)) };
+    latter = record { remainder = ha; cofactor = (unit p l) .reduced; small = below-up (omega arith) (below-unit p 32) };
+    leading = size-monic l fits hb m;
     limit = le-refl d;
     size = z;
     fewer = size-small ha h z;

@@ -1,6 +1,6 @@
 // Euclid's algorithm on polynomials over ℤ/p, p a prime, on arrays of 33 coefficients: the monic multiple, the monic gcd, and the
 // monic gcd with one cofactor. What is public is so for the crates above, and no entry point of the library.
-ghost use Prim.Native.Nat.{_<_, _≤_};
+ghost use Prim.Native.Nat.{_<_, _≤_, _+_, _-_};
 ghost use Rattle.algebra.specs.Degree.{Below, Monic};
 ghost use Rattle.algebra.specs.Fields.{Prime};
 ghost use Rattle.algebra.specs.CoefficientLists.{poly, Reduced};
@@ -24,7 +24,7 @@ struct Row {
     cofactor: [u16; 33],
 }
 
-// Two successive remainders: the former is monic of the degree given, the latter has the size given.
+// Two successive remainders: the former is of the degree given, the latter has the size given.
 struct Rows {
     former: Row,
     degree: usize,
@@ -32,7 +32,7 @@ struct Rows {
     size: usize,
 }
 
-// Two successive remainders without their cofactors: the former is monic of the degree given, the latter has the size given.
+// Two successive remainders without their cofactors: the former is of the degree given, the latter has the size given.
 struct Remainders {
     former: [u16; 33],
     degree: usize,
@@ -53,28 +53,28 @@ pub struct CommonDivisor {
     pub cofactor: [u16; 33],
 }
 
-// The monic multiple of a, which is not 0 and has the size s.
-fn monic_multiple(a: [u16; 33], s: usize, p: u16) -> MonicMultiple
-    requires { ⌜ Prime p × Reduced p 33 a × Size a s × (0 < s) ⌝ }
-    ensures { λ r. ⌜ MonicMultipleOf p a s (r .array) (r .unit) ⌝ }
+// The monic multiple of a, which is of degree e.
+fn monic_multiple(a: [u16; 33], e: usize, p: u16) -> MonicMultiple
+    requires { ⌜ Prime p × Reduced p 33 a × Size a (e + 1) ⌝ }
+    ensures { λ r. ⌜ MonicMultipleOf p a e (r .array) (r .unit) ⌝ }
 {
-    let unit = modular::inverse(a[s - 1], p);
-    let array = modular::multiple(unit, a, s, p);
+    let unit = modular::inverse(a[e], p);
+    let array = modular::multiple(unit, a, e + 1, p);
     MonicMultiple {
         array: array,
         unit: unit,
     }
 }
 
-// A row made monic, where its remainder is not 0 and has the size s.
-fn monic_row(r: Row, s: usize, d: usize, p: u16) -> Row
-    requires { ⌜ Prime p × (0 < s) × (d < 33) × ReducedRow p d r × Size (r .remainder) s ⌝ }
-    ensures { λ f. ⌜ MonicRow p d s r f ⌝ }
+// A row made monic, where its remainder is of degree e and its cofactor has t terms.
+fn monic_row(r: Row, e: usize, t: usize, p: u16) -> Row
+    requires { ⌜ Prime p × (t ≤ 33) × ReducedRow p t r × Size (r .remainder) (e + 1) ⌝ }
+    ensures { λ f. ⌜ MonicRow p t e r f ⌝ }
 {
     let a = r.remainder;
     let u = r.cofactor;
-    let m = monic_multiple(a, s, p);
-    let v = modular::multiple(m.unit, u, d, p);
+    let m = monic_multiple(a, e, p);
+    let v = modular::multiple(m.unit, u, t, p);
     let f = m.array;
     Row {
         remainder: f,
@@ -82,40 +82,42 @@ fn monic_row(r: Row, s: usize, d: usize, p: u16) -> Row
     }
 }
 
-// The row that the division of r by f leaves, where r has s terms and f is monic of degree e.
-fn divide_row(r: Row, s: usize, f: Row, e: usize, b: [u16; 33], d: usize, p: u16) -> Row
-    requires { ⌜ (s ≤ 33) × (e < 33) × (d < 33) × Monic d (poly p b) × Operands p d s e r f ⌝ }
-    ensures { λ z. ⌜ DividedRow p b d e r f z ⌝ }
+// The row that the division of r by f leaves, where r has s terms, f is of degree e, and their cofactors have t terms.
+fn divide_row(r: Row, s: usize, f: Row, e: usize, t: usize, p: u16) -> Row
+    requires { ⌜ Prime p × (e < s) × (s ≤ 33) × (s - e + t ≤ 34) × Operands p s e t r f ⌝ }
+    ensures { λ z. ⌜ DividedRow p s e t r f z ⌝ }
 {
     let a = r.remainder;
     let g = f.remainder;
-    let t = modular::divide(a, s, g, e, p);
-    let q = t.quotient;
+    let unit = modular::inverse(g[e], p);
+    let z = modular::divide_by(a, s, g, e, unit, p);
+    let q = z.quotient;
     let v = f.cofactor;
-    let k = quotients::product_modulo(q, v, b, d, p);
+    let k = modular::product(q, s - e, v, t, p);
     let u = r.cofactor;
     let y = modular::difference(u, k, p);
-    let w = t.remainder;
+    let w = z.remainder;
     Row {
         remainder: w,
         cofactor: y,
     }
 }
 
-// One division of Euclid's algorithm: the latter remainder is made monic and divides the former.
-fn next(w: Rows, b: [u16; 33], d: usize, p: u16) -> Rows
-    requires { ⌜ Prime p × (d < 33) × Monic d (poly p b) × Formed p d w × (0 < w .size) ⌝ }
-    ensures { λ r. ⌜ NextOf p b d w r ⌝ }
+// One division of Euclid's algorithm: the latter remainder divides the former. The cofactors stay exact: they have d + 1 - degree terms at most,
+// where b is of degree d.
+fn next(w: Rows, d: usize, p: u16) -> Rows
+    requires { ⌜ Prime p × (d < 33) × Formed p d w × (0 < w .size) ⌝ }
+    ensures { λ r. ⌜ NextOf p d w r ⌝ }
 {
     let e = w.size - 1;
-    let f = monic_row(w.latter, w.size, d, p);
-    let z = divide_row(w.former, w.degree + 1, f, e, b, d, p);
+    let f = w.latter;
+    let z = divide_row(w.former, w.degree + 1, f, e, d + 1 - w.degree, p);
     let r = z.remainder;
     Rows {
         former: f,
         degree: e,
         latter: z,
-        size: modular::size(r),
+        size: modular::size_below(&r, e),
     }
 }
 
@@ -127,18 +129,18 @@ fn next_remainder(w: Remainders, p: u16) -> Remainders
     let e = w.size - 1;
     let a = w.former;
     let b = w.latter;
-    let m = monic_multiple(b, w.size, p);
-    let f = m.array;
-    let r = quotients::remainder(a, w.degree + 1, f, e, p);
+    let unit = modular::inverse(b[e], p);
+    let z = modular::divide_by(a, w.degree + 1, b, e, unit, p);
+    let r = z.remainder;
     Remainders {
-        former: f,
+        former: b,
         degree: e,
         latter: r,
-        size: modular::size(r),
+        size: modular::size_below(&r, e),
     }
 }
 
-// The monic gcd of a and b, where b is monic of degree d and a has d terms: the last remainder that is not 0.
+// The monic gcd of a and b, where b is monic of degree d and a has d terms: the last remainder that is not 0, made monic.
 pub fn common_divisor(a: [u16; 33], b: [u16; 33], d: usize, p: u16) -> Greatest
     requires { ⌜ Prime p × (d < 33) × Reduced p 33 a × Reduced p 33 b × Below d (poly p a) × Monic d (poly p b) ⌝ }
     ensures { λ r. ⌜ GcdOf p a b d (r .gcd) (r .degree) ⌝ }
@@ -154,8 +156,10 @@ pub fn common_divisor(a: [u16; 33], b: [u16; 33], d: usize, p: u16) -> Greatest
         t = v;
     }
     let g = t.former;
+    let m = monic_multiple(g, t.degree, p);
+    let h = m.array;
     Greatest {
-        gcd: g,
+        gcd: h,
         degree: t.degree,
     }
 }
@@ -181,12 +185,13 @@ pub fn gcd(a: [u16; 33], b: [u16; 33], d: usize, p: u16) -> CommonDivisor
         size: modular::size(a),
     };
     while 0 < w.size {
-        let v = next(w, b, d, p);
+        let v = next(w, d, p);
         w = v;
     }
     let f = w.former;
-    let g = f.remainder;
-    let u = f.cofactor;
+    let m = monic_row(f, w.degree, d - w.degree, p);
+    let g = m.remainder;
+    let u = m.cofactor;
     CommonDivisor {
         gcd: g,
         degree: w.degree,

@@ -1,23 +1,21 @@
 -- Two factors of f modulo p² with coprime bars: `MonicModSquare`, what is given, `CutOf`, what comes of it.
 -- Proves that the halves of the bar of f, lifted, are such. Assumes nothing.
-use mathlib.Core.Path.{_≡_, sym, _∙_, ap, subst}
+use mathlib.Core.Path.{_≡_, sym, _∙_, subst}
 use mathlib.Core.Bool.{Bool, true, false}
 use mathlib.Core.List.{List}
-use lib.ListN.{replicate}
 use Prim.Native.Nat.{ℕ, _≤_, _<_, _-_, _+_ as _+ℕ_, _*_ as _*ℕ_}
 use native.Mathlib.Omega.{arith}
 use Rattle.specification.specs.Limits.{taken}
-use Rattle.algebra.specs.Ring.{zero-add}
 use Rattle.algebra.specs.Divisibility.{Coprime}
 use Rattle.algebra.specs.Residues.{Residues}
-use Rattle.algebra.specs.Polynomials.{PolyRing, _+_, _·_}
+use Rattle.algebra.specs.Polynomials.{PolyRing, _·_}
 use Rattle.algebra.specs.Degree.{Monic}
 use Rattle.algebra.specs.TakenPrimes.{is-prime}
 use Rattle.algebra.specs.CoefficientLists.{poly, Reduced}
 use Rattle.frobenius.specs.SplittingElements.{SplittingElement}
 use Rattle.frobenius.specs.Unsplit.{Unsplit}
 use Rattle.theorems.specs.Reductions.{bar-monic}
-use Rattle.modular.specs.Coefficients.{Represents, zeros}
+use Rattle.modular.specs.Coefficients.{Represents}
 use Rattle.splitting.specs.declared.Element.{Element}
 use Rattle.splitting.specs.Elements.{Known, ForFactor}
 use Rattle.halves.specs.Splitting.{Split, HalvesOf}
@@ -118,9 +116,3 @@ module _ {p : ℕ} {f : List ℕ} {d : ℕ} (M : MonicModSquare p f d) where
         coprime = rw (L .bar-first, L .bar-second) (H .coprime);
         multiplies = L .multiplies;
       }
-
-pub bar-is : (p : ℕ) (f r : List ℕ) → 0 < p → Represents p r (poly p (replicate 33 0) + poly p f) → Represents p r (poly p f)
-bar-is p f r pos h = record {
-  reduced = h .reduced;
-  is = h .is ∙ ap (λ a. a + poly p f) (zeros p pos .is) ∙ zero-add (PolyRing (Residues p)) (poly p f);
-}

@@ -1,9 +1,15 @@
 // A monic f modulo p² cut into two factors with coprime bars, by a splitting element of its bar, if there is one.
 // What is public is so for the crates above, and no entry point of the library.
+ghost use Prim.Native.Nat.{_<_};
 ghost use Rattle.algebra.specs.CoefficientLists.{poly};
 ghost use Rattle.modular.specs.Coefficients.{Represents};
 ghost use Rattle.splitting.specs.Elements.{Known};
+ghost use Rattle.lifting.specs.Defect.{Factors};
+ghost use Rattle.lifting.specs.CoprimePair.{CoprimePair};
+ghost use Rattle.lifting.specs.Lifted.{Lifted};
 ghost use Rattle.factors.specs.Cut.{MonicModSquare, CutOf};
+use lifting::Pair;
+use lifting::lift;
 use splitting::Element;
 use splitting::element_for;
 use splitting::element_of;
@@ -22,8 +28,24 @@ pub fn bar(f: [u16; 33], d: usize, p: u16) -> [u16; 33]
     requires { ⌜ MonicModSquare p f d ⌝ }
     ensures { λ r. ⌜ Represents p r (poly p f) ⌝ }
 {
-    let zero = [0u16; 33];
-    modular::sum(zero, f, p)
+    modular::modulo(f, p)
+}
+
+// The factors of f with the bars a and b, of degrees i and j. `lift` works modulo its second factor, so the one of lower degree stands there.
+fn lift_halves(f: [u16; 33], a: [u16; 33], i: usize, b: [u16; 33], j: usize, p: u16) -> Pair
+    requires { ⌜ (0 < i) × Factors p f a i b j × CoprimePair p a i b j ⌝ }
+    ensures { λ r. ⌜ Lifted p f a i b j (r .first) (r .second) ⌝ }
+{
+    if j <= i {
+        return lift(f, a, i, b, j, p);
+    }
+    let c = lift(f, b, j, a, i, p);
+    let of_a = c.second;
+    let of_b = c.first;
+    Pair {
+        first: of_a,
+        second: of_b,
+    }
 }
 
 // f cut in two, unless its bar has no splitting element. The element e of the bar is used, if it is known.
@@ -39,7 +61,7 @@ pub fn cut_in_two(f: [u16; 33], d: usize, e: Element, p: u16) -> Cut
         let a = h.first;
         let b = h.second;
         let rest = element_for(v, d, b, d - h.degree, p);
-        let c = lifting::lift(f, a, h.degree, b, d - h.degree, p);
+        let c = lift_halves(f, a, h.degree, b, d - h.degree, p);
         let first = c.first;
         let second = c.second;
         return Cut {

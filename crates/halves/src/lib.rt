@@ -16,7 +16,7 @@ pub struct Halves {
 
 // v - c.
 fn less_constant(v: [u16; 33], c: u16, p: u16) -> [u16; 33]
-    requires { ⌜ Reduced p 33 v × (c ≤ p) ⌝ }
+    requires { ⌜ Reduced p 33 v × (c ≤ p) × (1 < p) ⌝ }
     ensures { λ r. ⌜ Represents p r (poly p v + - constant (residue p c)) ⌝ }
 {
     let mut unit = [0u16; 33];

@@ -1,5 +1,5 @@
 -- Coprime factors a and b modulo p: `CoprimePair`.
--- Proves that the cofactor of the gcd of a modulo b, and b, is the inverse of a modulo b. Assumes nothing.
+-- Proves that the cofactor of the gcd of a modulo b, and b, is the inverse of a modulo b, and that the two may change places. Assumes nothing.
 use mathlib.Core.Path.{_≡_, refl}
 use mathlib.Core.Bool.{true}
 use mathlib.Core.List.{List}
@@ -7,7 +7,7 @@ use Prim.Native.Nat.{ℕ, _<_}
 use native.Mathlib.Omega.{arith}
 use Rattle.specification.specs.Limits.{taken}
 use Rattle.algebra.specs.Ring.{CommRing}
-use Rattle.algebra.specs.Divisibility.{_∣_, Coprime, coprime-common, divides-trans}
+use Rattle.algebra.specs.Divisibility.{_∣_, Coprime, coprime-sym, coprime-common, divides-trans}
 use Rattle.algebra.specs.Residues.{Residues}
 use Rattle.algebra.specs.Polynomials.{PolyRing, 𝟏}
 use Rattle.algebra.specs.Congruence.{congruent-equal, congruent-sym, congruent-trans, congruent-mul, divides-congruent}
@@ -31,6 +31,19 @@ pub record CoprimePair (p : ℕ) (a : List ℕ) (i : ℕ) (b : List ℕ) (j : �
   pub monic-second : Monic j (poly p b)
   pub coprime : Coprime (PolyRing (Residues p)) (poly p a) (poly p b)
 
+pub pair-swapped : {p : ℕ} {a b : List ℕ} {i j : ℕ} → 0 < i → CoprimePair p a i b j → CoprimePair p b j a i
+pair-swapped {p} pos C = record {
+  prime = C .prime;
+  positive = pos;
+  fits-first = C .fits-second;
+  fits-second = C .fits-first;
+  first = C .second;
+  monic-first = C .monic-second;
+  second = C .first;
+  monic-second = C .monic-first;
+  coprime = coprime-sym (PolyRing (Residues p)) (C .coprime);
+}
+
 module _ {p : ℕ} {a b : List ℕ} {i j : ℕ} (C : CoprimePair p a i b j) {r g u : List ℕ} {e : ℕ} (hr : Remainder p b j r (poly p a))
     (hg : GcdOf p r b j g e) (hu : CofactorOf p r b j g u) where
   abbrev 𝓑 : CommRing (ℤ[x]/ p)
@@ -50,6 +63,7 @@ module _ {p : ℕ} {a b : List ℕ} {i j : ℕ} (C : CoprimePair p a i b j) {r g
 
   pub inverse-is : Inverse p a b j u
   inverse-is = record {
+    reduced = hu .reduced;
     small = hu .small;
     inverts = congruent-trans 𝓑 (congruent-mul 𝓑 (congruent-equal 𝓑 refl) (congruent-sym 𝓑 (hr .congruent)))
         (congruent-trans 𝓑 (hu .combination) (congruent-equal 𝓑 one));

@@ -17,6 +17,7 @@ use Rattle.quotients.specs.Remainder.{Remainder}
 
 -- u·a = 1 modulo b, which is of degree j
 pub record Inverse (p : ℕ) (a b : List ℕ) (j : ℕ) (u : List ℕ) : Type 0 where
+  pub reduced : Reduced p 33 u
   pub small : Below j (poly p u)
   pub inverts : Congruent (PolyRing (Residues p)) (poly p b) (poly p u · poly p a) 𝟏
 
@@ -25,7 +26,9 @@ pub record Given (p : ℕ) (h a : List ℕ) (i : ℕ) (b : List ℕ) (j : ℕ) (
   pub fits : i +ℕ j ≤ 32
   pub reduced : Reduced p 33 h
   pub small : Below (i +ℕ j) (poly p h)
+  pub first : Reduced p 33 a
   pub monic-first : Monic i (poly p a)
+  pub second : Reduced p 33 b
   pub monic-second : Monic j (poly p b)
   pub inverse : Inverse p a b j u
 

@@ -1,9 +1,10 @@
 -- How far a·b, read modulo p², is from f, where it is f modulo p: `Defect`, the h of f − a·b = p·h.
--- Proves that the entries of f − a·b over p are h. Assumes nothing.
-use mathlib.Core.Path.{_≡_, sym, _∙_, ap, ap₂}
+-- Proves that the entries of f − a·b over p are h, and that the factors may change places. Assumes nothing.
+use mathlib.Core.Path.{_≡_, sym, _∙_, ap, ap₂, subst}
 use mathlib.Core.List.{List, map}
 use Prim.Native.Nat.{ℕ, _≤_, _<_, _/_, _+_ as _+ℕ_, _*_ as _*ℕ_}
-use native.Mathlib.Nat.{zero-div, div-lt-iff-lt-mul}
+use native.Mathlib.Nat.{zero-div, div-lt-iff-lt-mul, add-comm}
+use native.Mathlib.Omega.{arith}
 use lib.ListN.{length, getD, length-map}
 use Rattle.algebra.specs.Ring.{CommRing, linear1}
 use Rattle.algebra.specs.Identities.{con, _⊕_, _⊖_, _⊗_, _≈_, solve}
@@ -34,6 +35,20 @@ pub record Factors (p : ℕ) (f a : List ℕ) (i : ℕ) (b : List ℕ) (j : ℕ)
   pub second : Reduced p 33 b
   pub monic-second : Monic j (poly p b)
   pub multiplies : poly p a · poly p b ≡ poly p f
+
+-- b·a is the same
+pub factors-swapped : {p : ℕ} {f a b : List ℕ} {i j : ℕ} → Factors p f a i b j → Factors p f b j a i
+factors-swapped {p} {f} {a} {b} {i} {j} F = record {
+  prime = F .prime;
+  fits = omega (arith, F .fits);
+  whole = F .whole;
+  monic = subst (λ (k : ℕ). Monic k (poly (p *ℕ p) f)) (add-comm i j) (F .monic);
+  first = F .second;
+  monic-first = F .monic-second;
+  second = F .first;
+  monic-second = F .monic-first;
+  multiplies = (PolyRing (Residues p)) .*-comm (poly p b) (poly p a) ∙ F .multiplies;
+}
 
 pub record Defect (p : ℕ) (f a : List ℕ) (i : ℕ) (b : List ℕ) (j : ℕ) (h : List ℕ) : Type 0 where
   pub reduced : Reduced p 33 h

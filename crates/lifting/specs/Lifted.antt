@@ -1,5 +1,5 @@
 -- Factors of f modulo p² with given bars: `Lifted`.
--- Proves that a + p·s and b + p·t are such, where f − a·b = p·(s·b + t·a). Assumes nothing.
+-- Proves that a + p·s and b + p·t are such, where f − a·b = p·(s·b + t·a), and that the factors may change places. Assumes nothing.
 use mathlib.Core.Path.{_≡_, sym, _∙_, ap, ap₂}
 use mathlib.Core.List.{List}
 use Prim.Native.Nat.{ℕ, _<_, _*_ as _*ℕ_}
@@ -25,6 +25,17 @@ pub record Lifted (p : ℕ) (f a : List ℕ) (i : ℕ) (b : List ℕ) (j : ℕ) 
   pub monic-second : Monic j (poly (p *ℕ p) B)
   pub bar-second : poly p B ≡ poly p b
   pub multiplies : poly (p *ℕ p) A · poly (p *ℕ p) B ≡ poly (p *ℕ p) f
+
+pub lifted-swapped : {p : ℕ} {f a b A B : List ℕ} {i j : ℕ} → Lifted p f b j a i B A → Lifted p f a i b j A B
+lifted-swapped {p} {A = A} {B} L = record {
+  first = L .second;
+  monic-first = L .monic-second;
+  bar-first = L .bar-second;
+  second = L .first;
+  monic-second = L .monic-first;
+  bar-second = L .bar-first;
+  multiplies = (PolyRing (Residues (p *ℕ p))) .*-comm (poly (p *ℕ p) A) (poly (p *ℕ p) B) ∙ L .multiplies;
+}
 
 module _ {p : ℕ} (large : 1 < p) where
   abbrev 𝓐 : CommRing (ℤ[x]/ (p *ℕ p))

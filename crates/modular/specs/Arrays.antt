@@ -4,17 +4,19 @@
 use mathlib.Core.Path.{_≡_, sym, _∙_, ap, subst}
 use mathlib.Core.List.{List}
 use mathlib.Core.Logic.{_≢_, ⊎-elim}
-use Prim.Native.Nat.{ℕ, _≤_, _<_, _-_, _*_, zero-le}
-use native.Mathlib.Nat.{mod-eq-of-lt, pos-of-ne-zero, mul-le-mul-left}
+use Prim.Native.Nat.{ℕ, _≤_, _<_, _+_, _-_, _*_, zero-le}
+use native.Mathlib.Nat.{mod-eq-of-lt, pos-of-ne-zero}
+use native.Mathlib.Numerals.{add-one}
 use native.Mathlib.Omega.{arith}
 use lib.ListN.{length, getD, take}
 use lib.Seq.{getD-take, length-take-le, ext-getD}
-use Rattle.algebra.specs.Numbers.{lt-or-le}
+use Rattle.algebra.specs.Numbers.{lt-or-le, square-least}
 use Rattle.algebra.specs.Residues.{residue, residue-zero, same-remainder}
 use Rattle.algebra.specs.Polynomials.{𝟎, poly-ext}
-use Rattle.algebra.specs.Degree.{Below, below-zero, below-𝟎}
+use Rattle.algebra.specs.Degree.{Below, Monic, below-zero, below-𝟎}
+use Rattle.algebra.specs.Fields.{residue-nontrivial}
 use Rattle.algebra.specs.CoefficientLists.{poly, Reduced, coef-poly}
-use Rattle.modular.specs.Coefficients.{Size, below-size}
+use Rattle.modular.specs.Coefficients.{ZeroFrom, Size, below-size}
 
 module _ {n : ℕ} where
   pub same-number : {a b : ℕ} → a < n → b < n → residue n a ≡ residue n b → a ≡ b
@@ -34,7 +36,7 @@ module _ {n : ℕ} where
       long = length-take-le k a (omega (arith, ha .len))
 
   -- no term from k on: the entries there are 0
-  pub zero-above : {k l : ℕ} {a : List ℕ} → Reduced n l a → Below k (poly n a) → (j : ℕ) → k ≤ j → getD a j 0 ≡ 0
+  pub zero-above : {k l : ℕ} {a : List ℕ} → Reduced n l a → Below k (poly n a) → ZeroFrom k a
   zero-above {a = a} ha h j l =
       same-number (ha .low j) (omega (arith, ha .low j)) (sym (coef-poly n a j) ∙ h .high j l ∙ sym (residue-zero n))
 
@@ -53,9 +55,26 @@ module _ {n : ℕ} where
   pub size-nonzero : {l : ℕ} {a : List ℕ} {z : ℕ} → Reduced n l a → Size a z → z ≢ 0 → poly n a ≢ 𝟎
   size-nonzero {z = z} ha s ne e = s .top (pos-of-ne-zero ne) (zero-above ha (rw e (below-𝟎 0)) (z - 1) zero-le)
 
+-- a monic array of degree d has the size d + 1
+pub size-monic : {n d : ℕ} {a : List ℕ} → 1 < n → d < 33 → Reduced n 33 a → Monic d (poly n a) → Size a (d + 1)
+size-monic {n} {d} {a} large fits ha m = record {
+  limit = omega arith;
+  above = zero-above ha (rw add-one (m .below));
+  top = λ l e. residue-nontrivial large
+      (sym (m .leading) ∙ coef-poly n a d ∙ ap (residue n) (ap (λ (k : ℕ). getD a k 0) (let q : d ≡ d + 1 - 1 = omega arith in q) ∙ e) ∙ residue-zero n);
+}
+
+-- what has the size s, and is not 0, is of degree s − 1
+pub size-degree : {a : List ℕ} {s : ℕ} → 0 < s → Size a s → Size a (s - 1 + 1)
+size-degree {a} {s} pos z = subst (Size a) (let e : s ≡ s - 1 + 1 = omega arith in e) z
+
+-- the leading coefficient is not 0
+pub leading-pos : (a : List ℕ) (d : ℕ) → Size a (d + 1) → 0 < getD a d 0
+leading-pos a d z = subst (λ (k : ℕ). 0 < getD a k 0) (let q : d + 1 - 1 ≡ d = omega arith in q) (pos-of-ne-zero (z .top (omega arith)))
+
 -- what is below p is below p²
 pub reduced-square : {p l : ℕ} {a : List ℕ} → Reduced p l a → Reduced (p * p) l a
-reduced-square {p} r = record { len = r .len; low = λ j. omega (arith, r .low j, mul-le-mul-left p (let l : 1 ≤ p = omega (arith, r .low j) in l)) }
+reduced-square {p} r = record { len = r .len; low = λ j. omega (arith, r .low j, square-least p) }
 
 -- lists with the same entries are one polynomial
 pub same-poly : (n : ℕ) (f g : List ℕ) → ((j : ℕ) → getD f j 0 ≡ getD g j 0) → poly n f ≡ poly n g

@@ -1,5 +1,5 @@
 -- Arrays of 33 coefficients as polynomials over ℤ/n: `Represents n r p`, the array r holds the polynomial p; `Size a r`.
--- Proves what the arrays of 0 and 1 represent, that n − c stands for −c, and what the terms from i on are. Assumes nothing.
+-- Proves what the arrays of 0 and 1 represent, which coefficients a + c·f has, that n − c stands for −c, and what the terms from i on are. Assumes nothing.
 use mathlib.Core.Path.{_≡_, sym, _∙_, ap, ap₂}
 use mathlib.Core.List.{List, _∷_}
 use Prim.Native.Nat.{ℕ, zero, suc, _≤_, _<_, _-_, _+_ as _+ℕ_}
@@ -8,7 +8,7 @@ use lib.ListN.{length, getD, drop, replicate, length-replicate}
 use lib.Seq.{drop-cons, getD-drop}
 use Rattle.algebra.specs.Identities.{con, _⊕_, _⊗_, _≈_, solve}
 use Rattle.algebra.specs.Residues.{residue, Residues, residue-zero, residue-one, residue-neg}
-use Rattle.algebra.specs.Polynomials.{PolyRing, _+_, _·_, -_, 𝟎, 𝟏, x, constant, constant-one, constant-neg, poly-ext, coef-zero}
+use Rattle.algebra.specs.Polynomials.{PolyRing, _+_, _·_, -_, 𝟎, 𝟏, x, constant, constant-one, constant-neg, poly-ext, coef-zero, coef-add, coef-constant-mul}
 use Rattle.algebra.specs.Degree.{Below, below-up, monic-one}
 use Rattle.algebra.specs.CoefficientLists.{ℤ[x]/, poly, Reduced, coef-poly, poly-cons, below-poly}
 use Rattle.algebra.specs.ListShapes.{getD-zeros}
@@ -19,16 +19,30 @@ pub record Represents (n : ℕ) (r : List ℕ) (p : ℤ[x]/ n) : Type 0 where
   pub reduced : Reduced n 33 r
   pub is : poly n r ≡ p
 
+-- every entry is below n
+abbrev pub Within : ℕ → List ℕ → Type 0
+Within n a = (k : ℕ) → getD a k 0 < n
+
+-- the entries from m on are 0
+abbrev pub ZeroFrom : ℕ → List ℕ → Type 0
+ZeroFrom m a = (k : ℕ) → m ≤ k → getD a k 0 ≡ 0
+
 -- r is one more than the degree of a, and 0 for zero
 pub record Size (a : List ℕ) (r : ℕ) : Type 0 where
   pub limit : r ≤ 33
-  pub above : (k : ℕ) → r ≤ k → getD a k 0 ≡ 0
+  pub above : ZeroFrom r a
   pub top : 0 < r → getD a (r - 1) 0 ≡ 0 → ⊥
 
 module _ (n : ℕ) where
   -- as many terms as the size says, modulo any number
   pub below-size : {a : List ℕ} {r : ℕ} → Size a r → Below r (poly n a)
   below-size {a} s = record { high = λ k l. coef-poly n a k ∙ ap (residue n) (s .above k l) ∙ residue-zero n }
+
+  -- the coefficient j of a + c·f
+  pub coef-added : (a : List ℕ) (c : ℕ) (f : ℤ[x]/ n) (j : ℕ)
+      → (poly n a + constant (residue n c) · f) .coef j ≡ (Residues n) .add (residue n (getD a j 0)) ((Residues n) .mul (residue n c) (f .coef j))
+  coef-added a c f j =
+      coef-add (poly n a) (constant (residue n c) · f) j ∙ ap₂ ((Residues n) .add) (coef-poly n a j) (coef-constant-mul (residue n c) f j)
 
   pub below-length : (a : List ℕ) {m : ℕ} → length a ≤ m → Below m (poly n a)
   below-length a l = below-up l (below-poly n a)

@@ -1,24 +1,32 @@
--- Division of arrays by a monic array: `DividedBy`, what holds of quotient and remainder; the loop of `divide`, which takes the
--- highest term away turn by turn.
--- Proves that the loop begins, goes on and ends as it should, and what a division that comes out even gives. Assumes nothing.
+-- Division of arrays by an array that a unit makes monic (`MonicBy`): `DividedBy`, what holds of quotient and remainder; the loop of `divide_by`.
+-- Proves that the loop, which takes the highest term away turn by turn, ends as it should, what a division that comes out even gives, and how many
+-- terms the quotient has. Assumes nothing.
 use mathlib.Core.Path.{_≡_, sym, _∙_, ap, ap₂}
 use mathlib.Core.List.{List}
-use Prim.Native.Nat.{ℕ, suc, _≤_, _<_, _-_, _+_ as _+ℕ_}
+use Prim.Native.Nat.{ℕ, suc, _≤_, _<_, _-_, _%_, _+_ as _+ℕ_, _*_ as _*ℕ_}
 use native.Mathlib.Omega.{arith}
 use lib.ListN.{getD, set, replicate}
 use lib.Seq.{getD-set-other}
-use Rattle.algebra.specs.Ring.{add-zero}
+use Rattle.algebra.specs.Ring.{add-zero, linear1}
 use Rattle.algebra.specs.Identities.{con, _⊕_, _⊖_, _⊗_, _≈_, solve}
-use Rattle.algebra.specs.Residues.{residue, Residues}
-use Rattle.algebra.specs.Polynomials.{PolyRing, _+_, _·_, -_, 𝟎, constant}
-use Rattle.algebra.specs.Degree.{Below, Monic, below-𝟎, below-up, monic-mul, monic-pow-x}
+use Rattle.algebra.specs.Residues.{residue, Residues, residue-mul, residue-mod}
+use Rattle.algebra.specs.Polynomials.{PolyRing, _+_, _·_, -_, 𝟎, constant, constant-mul}
+use Rattle.algebra.specs.Degree.{Below, Monic, below-𝟎, below-up, below-add, below-neg, below-constant-mul, below-factor, monic-mul, monic-pow-x}
 use Rattle.algebra.specs.Division.{below-top, divided-unique}
 use Rattle.algebra.specs.CoefficientLists.{ℤ[x]/, poly, Reduced, coef-poly}
 use Rattle.algebra.specs.ListShapes.{getD-zeros}
 use Rattle.algebra.specs.Monomials.{x^}
 use Rattle.modular.specs.Coefficients.{Represents, zeros}
 use Rattle.modular.specs.Terms.{term-set}
-use Rattle.modular.specs.Multiples.{negative-multiple}
+use Rattle.modular.specs.Multiples.{one-multiple, negative-multiple}
+
+-- unit·b is monic of degree d, and b has no term above d
+pub record MonicBy (n : ℕ) (b : List ℕ) (d unit : ℕ) : Type 0 where
+  pub below : Below (suc d) (poly n b)
+  pub monic : Monic d (constant (residue n unit) · poly n b)
+
+pub monic-by-one : {n : ℕ} {b : List ℕ} {d : ℕ} → Monic d (poly n b) → MonicBy n b d 1
+monic-by-one {n} {b} m = record { below = m .below; monic = rw (one-multiple n (poly n b)) m }
 
 -- q and r are the arrays of the quotient and of the remainder of a by b, which is of degree d
 pub record DividedBy (n : ℕ) (a b : List ℕ) (d : ℕ) (q r : List ℕ) : Type 0 where
@@ -51,39 +59,47 @@ module _ (n : ℕ) (a b : List ℕ) where
       pos : 0 < n
       pos = omega (arith, ha .low 0)
 
-  -- c·x^k goes into the quotient and c·x^k·b away from what is left, where c is the coefficient j = k + d, the top one
-  module _ {d : ℕ} (monic : Monic d (poly n b)) (q w u : List ℕ) (i j k : ℕ) (next : i ≡ suc j) (degrees : j ≡ k +ℕ d) where
+  -- c·x^k goes into the quotient and c·x^k·b away from what is left, where c is unit times the coefficient j = k + d, the top one
+  module _ {d unit : ℕ} (by : MonicBy n b d unit) (q w u : List ℕ) (i j k c : ℕ) (next : i ≡ suc j) (degrees : j ≡ k +ℕ d)
+      (is : c ≡ getD w j 0 *ℕ unit % n) (low : c < n) where
     abbrev top : ℤ[x]/ n
-    top = constant (residue n (getD w j 0))
+    top = constant (residue n c)
 
     abbrev multiple : ℤ[x]/ n
     multiple = x^ k · poly n b
 
-    pub division-more : PartialDivision n a b d i q w → Represents n u (poly n w + constant (residue n (n - getD w j 0)) · (x^ k · poly n b))
-        → PartialDivision n a b d j (set q k (getD w j 0)) u
+    -- the multiple taken off is that of unit·b by the top coefficient
+    same : top · multiple ≡ constant (poly n w .coef j) · (x^ k · (constant (residue n unit) · poly n b))
+    same =
+        ap (λ e. e · multiple)
+        (ap constant (ap (residue n) is ∙ residue-mod n (omega (arith, low)) (getD w j 0 *ℕ unit) ∙ residue-mul n (getD w j 0) unit)
+        ∙ constant-mul (residue n (getD w j 0)) (residue n unit))
+        ∙ solve (PolyRing (Residues n)) 4 (λ t u x b. t ⊗ u ⊗ (x ⊗ b) ≈ t ⊗ (x ⊗ (u ⊗ b))) tt
+        (constant (residue n (getD w j 0))) (constant (residue n unit)) (x^ k) (poly n b)
+        ∙ ap (λ e. constant e · (x^ k · (constant (residue n unit) · poly n b))) (sym (coef-poly n w j))
+
+    pub division-more : PartialDivision n a b d i q w → Represents n u (poly n w + constant (residue n (n - c)) · (x^ k · poly n b))
+        → PartialDivision n a b d j (set q k c) u
     division-more p hu = record {
       limit = omega (arith, p .limit);
       quotient = term .reduced;
-      free = λ m l. getD-set-other q k m (getD w j 0) 0 (omega arith) ∙ p .free m (omega arith);
+      free = λ m l. getD-set-other q k m c 0 (omega arith) ∙ p .free m (omega arith);
       remainder = hu .reduced;
       law = ap₂ (λ y z. y · poly n b + z) (term .is) left-is
           ∙ solve (PolyRing (Residues n)) 5 (λ q c y b w. (q ⊕ c ⊗ y) ⊗ b ⊕ (w ⊖ c ⊗ (y ⊗ b)) ≈ q ⊗ b ⊕ w) tt
           (poly n q) top (x^ k) (poly n b) (poly n w)
           ∙ p .law;
-      small = rw (left-is, degrees) fewer;
+      small = rw (left-is, same, degrees) fewer;
     }
       where
-        small : getD w j 0 < n
-        small = p .remainder .low j
-
-        term : Represents n (set q k (getD w j 0)) (poly n q + top · x^ k)
-        term = term-set n k (p .quotient) (omega (arith, p .limit)) (p .free k (omega arith)) small
+        term : Represents n (set q k c) (poly n q + top · x^ k)
+        term = term-set n k (p .quotient) (omega (arith, p .limit)) (p .free k (omega arith)) low
 
         left-is : poly n u ≡ poly n w + - (top · multiple)
-        left-is = hu .is ∙ ap (λ c. poly n w + c) (negative-multiple n (omega (arith, small)) (omega (arith, small)) multiple)
+        left-is = hu .is ∙ ap (λ c. poly n w + c) (negative-multiple n (omega (arith, low)) (omega (arith, low)) multiple)
 
-        fewer : Below (k +ℕ d) (poly n w + - (constant (residue n (getD w (k +ℕ d) 0)) · multiple))
-        fewer = rw (← coef-poly n w (k +ℕ d)) (below-top (monic-mul (monic-pow-x k) monic) (poly n w) (below-up (omega arith) (p .small)))
+        fewer : Below (k +ℕ d) (poly n w + - (constant (poly n w .coef (k +ℕ d)) · (x^ k · (constant (residue n unit) · poly n b))))
+        fewer = below-top (monic-mul (monic-pow-x k) (by .monic)) (poly n w) (below-up (omega arith) (p .small))
 
   pub division-done : {d i : ℕ} {q w : List ℕ} → PartialDivision n a b d i q w → i ≤ d → DividedBy n a b d q w
   division-done p l = record { quotient = p .quotient; remainder = p .remainder; law = p .law; small = below-up l (p .small) }
@@ -93,3 +109,16 @@ module _ (n : ℕ) (a b : List ℕ) where
       → (poly n q ≡ k) × (poly n r ≡ 𝟎)
   divided-exactly {d} {q} {r} m h k e =
       divided-unique m (poly n q) (poly n r) k 𝟎 (h .small) (below-𝟎 d) (h .law ∙ sym e ∙ sym (add-zero (PolyRing (Residues n)) (k · poly n b)))
+
+  -- a has s terms: the quotient has s − d, for the monic unit·b times it is unit·(a − r)
+  pub quotient-terms : {d unit s : ℕ} {q r : List ℕ} → MonicBy n b d unit → Below s (poly n a) → DividedBy n a b d q r → Below (s - d) (poly n q)
+  quotient-terms {d} {unit} {s} {q} {r} by few h =
+      below-factor (by .monic) (s - d) (poly n q)
+      (rw multiple
+      (below-constant-mul (residue n unit) (below-add (below-up (omega arith) few) (below-neg (below-up (omega arith) (h .small))))))
+    where
+      multiple : poly n q · (constant (residue n unit) · poly n b) ≡ constant (residue n unit) · (poly n a + - poly n r)
+      multiple =
+          linear1 (PolyRing (Residues n)) (constant (residue n unit)) (h .law)
+          (solve (PolyRing (Residues n)) 5 (λ q u b a r. q ⊗ (u ⊗ b) ⊖ u ⊗ (a ⊖ r) ≈ u ⊗ (q ⊗ b ⊕ r ⊖ a)) tt
+          (poly n q) (constant (residue n unit)) (poly n b) (poly n a) (poly n r))

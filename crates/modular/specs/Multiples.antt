@@ -1,19 +1,19 @@
--- Multiples of arrays as `add_multiple` makes them, a + c·x^0·b: n − c stands for −c.
+-- Multiples of arrays as `add_multiple`, and `add_in_place` on a whole array, make them, a + c·x^0·b: n − c stands for −c.
 -- Proves what is then taken off, and that the multiples by 1 and by n − 1, and that of the array of 0, represent sum, difference and multiple.
 -- Assumes nothing.
-use mathlib.Core.Path.{_≡_, _∙_, ap, ap₂}
+use mathlib.Core.Path.{_≡_, sym, _∙_, ap, ap₂}
 use mathlib.Core.List.{List}
 use Prim.Native.Nat.{ℕ, _≤_, _<_, _-_}
 use lib.ListN.{replicate}
 use Rattle.algebra.specs.Ring.{neg-mul, one-mul, zero-add}
 use Rattle.algebra.specs.Residues.{residue, Residues}
 use Rattle.algebra.specs.Polynomials.{PolyRing, _+_, _·_, -_, constant}
-use Rattle.algebra.specs.CoefficientLists.{ℤ[x]/, poly}
+use Rattle.algebra.specs.CoefficientLists.{ℤ[x]/, poly, Reduced}
 use Rattle.algebra.specs.Monomials.{x^, shift-zero}
 use Rattle.modular.specs.Coefficients.{Represents, zeros, constant-residue-one, constant-residue-neg}
 
 module _ (n : ℕ) where
-  one-multiple : (b : ℤ[x]/ n) → constant (residue n 1) · b ≡ b
+  pub one-multiple : (b : ℤ[x]/ n) → constant (residue n 1) · b ≡ b
   one-multiple b = ap (λ c. c · b) (constant-residue-one n) ∙ one-mul (PolyRing (Residues n)) b
 
   pub negative-multiple : 0 < n → {c : ℕ} → c ≤ n → (b : ℤ[x]/ n) → constant (residue n (n - c)) · b ≡ - (constant (residue n c) · b)
@@ -37,6 +37,9 @@ module _ (n : ℕ) (a b r : List ℕ) where
     reduced = h .reduced;
     is = h .is ∙ ap (λ e. poly n a + e) (minus-one-multiple n pos (x^ 0 · poly n b) ∙ ap (λ e. - e) (shift-zero (poly n b)));
   }
+
+pub multiple-by-one : {n c : ℕ} {a : List ℕ} → c ≡ 1 → Reduced n 33 a → Represents n a (constant (residue n c) · poly n a)
+multiple-by-one {n} {c} {a} e h = record { reduced = h; is = sym (ap (λ (k : ℕ). constant (residue n k) · poly n a) e ∙ one-multiple n (poly n a)) }
 
 pub multiple-represented : (n c : ℕ) (a r : List ℕ) → 0 < n
     → Represents n r (poly n (replicate 33 0) + constant (residue n c) · (x^ 0 · poly n a)) → Represents n r (constant (residue n c) · poly n a)

@@ -1,40 +1,54 @@
--- Division by a product: with w = 2^32 / n the number s·w / 2^32 is the quotient of s by n, or one less.
--- Proves it for every s below 2^32, and what is left of s in both cases. Assumes nothing.
+-- Division by a product: with w = (B − 1) / n the number s·w / B is the quotient of s by n, or one less; B is 2^32 or 2^16.
+-- Proves it for every s below B, what is left of s in both cases, and that the reciprocal of 16 bits is the upper half of that of 32. Assumes nothing.
 use mathlib.Core.Path.{_≡_, sym, _∙_, ap}
 use Prim.Native.Nat.{ℕ, _≤_, _<_, _+_, _-_, _*_, _/_, _%_}
-use native.Mathlib.Nat.{div-add-mod', mod-lt, mul-le-mul-left, mul-le-mul-right, mul-add-mod-self-right, mod-eq-of-lt}
+use native.Mathlib.Nat.{
+  div-add-mod',
+  div-div-eq-div-mul,
+  mod-lt,
+  mul-comm,
+  mul-le-mul-left,
+  mul-le-mul-right,
+  mul-add-mod-self-right,
+  mod-eq-of-lt,
+  le-of-mul-le-mul-right,
+  lt-of-mul-lt-mul-right,
+}
 use native.Mathlib.Omega.{arith}
 
-module _ (n w s : ℕ) (positive : 0 < n) (is : w ≡ 4294967296 / n) (low : s < 4294967296) where
+module _ (B n w s : ℕ) (positive : 0 < n) (is : w ≡ (B - 1) / n) (low : s < B) where
   abbrev q : ℕ
-  q = s * w / 4294967296
+  q = s * w / B
 
-  w-low : w * n ≤ 4294967296
-  w-low = omega (arith, ap (λ (v : ℕ). v * n) is, div-add-mod' 4294967296 n)
+  room : 0 < B
+  room = omega arith
 
-  w-high : 4294967296 ≤ w * n + n
-  w-high = omega (arith, ap (λ (v : ℕ). v * n) is, div-add-mod' 4294967296 n, mod-lt 4294967296 positive)
+  w-low : w * n ≤ B
+  w-low = omega (arith, ap (λ (v : ℕ). v * n) is, div-add-mod' (B - 1) n)
 
-  q-low : q * 4294967296 ≤ s * w
-  q-low = omega (arith, div-add-mod' (s * w) 4294967296)
+  w-high : B ≤ w * n + n
+  w-high = omega (arith, ap (λ (v : ℕ). v * n) is, div-add-mod' (B - 1) n, mod-lt (B - 1) positive)
 
-  q-high : s * w ≤ q * 4294967296 + 4294967295
-  q-high = omega (arith, div-add-mod' (s * w) 4294967296, mod-lt (s * w) (let l : 0 < 4294967296 = omega arith in l))
+  q-low : q * B ≤ s * w
+  q-low = omega (arith, div-add-mod' (s * w) B)
+
+  q-high : s * w + 1 ≤ q * B + B
+  q-high = omega (arith, div-add-mod' (s * w) B, mod-lt (s * w) room)
 
   pub quotient-low : q * n ≤ s
-  quotient-low = omega (arith, mul-le-mul-right n q-low, mul-le-mul-left s w-low)
+  quotient-low = le-of-mul-le-mul-right {k = B} (omega (arith, mul-le-mul-right n q-low, mul-le-mul-left s w-low)) room
 
   pub quotient-high : s < q * n + n + n
-  quotient-high = omega (arith, mul-le-mul-right n q-high, mul-le-mul-left s w-high, mul-le-mul-right n low, positive)
+  quotient-high = lt-of-mul-lt-mul-right B (omega (arith, mul-le-mul-right n q-high, mul-le-mul-left s w-high, mul-le-mul-right n low, positive))
 
-  w-small : w ≤ 4294967296
+  w-small : w ≤ B
   w-small = omega (arith, w-low, mul-le-mul-left w positive)
 
-  -- the product has 64 bits, the quotient 32
-  pub product-fits : s * w < 18446744073709551616
-  product-fits = omega (arith, mul-le-mul-left s w-small, low)
+  -- the product has twice the bits of s, the quotient as many
+  pub product-fits : s * w < B * B
+  product-fits = omega (arith, mul-le-mul-left s w-small, mul-le-mul-right B low, room)
 
-  pub quotient-fits : q < 4294967296
+  pub quotient-fits : q < B
   quotient-fits = omega (arith, quotient-low, mul-le-mul-left q positive, low)
 
   left-over : (k r : ℕ) → s ≡ k * n + r → r < n → r ≡ s % n
@@ -45,3 +59,9 @@ module _ (n w s : ℕ) (positive : 0 < n) (is : w ≡ 4294967296 / n) (low : s <
 
   pub twice-left : n ≤ s - q * n → s - q * n - n ≡ s % n
   twice-left l = left-over (q + 1) (s - q * n - n) (omega (arith, quotient-low)) (omega (arith, quotient-high))
+
+-- 2^32 − 1 over 2^16 is 2^16 − 1
+pub upper-half : (n w : ℕ) → w ≡ 4294967295 / n → w / 65536 ≡ 65535 / n
+upper-half n w is =
+    ap (λ (v : ℕ). v / 65536) is ∙ div-div-eq-div-mul 4294967295 n 65536 ∙ ap (λ (v : ℕ). 4294967295 / v) (mul-comm n 65536)
+    ∙ sym (div-div-eq-div-mul 4294967295 65536 n)

@@ -11,11 +11,11 @@ use lib.Seq.{getD-set-same, getD-set-other}
 use Rattle.algebra.specs.Numbers.{lt-or-le}
 use Rattle.algebra.specs.Ring.{add-zero, mul-zero, mul-one, zero-add}
 use Rattle.algebra.specs.Residues.{residue, Residues, residue-zero}
-use Rattle.algebra.specs.Polynomials.{_+_, _·_, constant, poly-ext, coef-add, coef-constant-mul}
+use Rattle.algebra.specs.Polynomials.{_+_, _·_, constant, poly-ext}
 use Rattle.algebra.specs.Degree.{monic-pow-x}
 use Rattle.algebra.specs.CoefficientLists.{poly, Reduced, coef-poly}
 use Rattle.algebra.specs.Monomials.{x^, coef-power-low}
-use Rattle.modular.specs.Coefficients.{Represents}
+use Rattle.modular.specs.Coefficients.{Represents, coef-added}
 
 module _ (n : ℕ) {q : List ℕ} (i : ℕ) {c : ℕ} (r : Reduced n 33 q) (fits : i < 33) (free : getD q i 0 ≡ 0) (low : c < n) where
   here : getD (set q i c) i 0 ≡ c
@@ -31,22 +31,17 @@ module _ (n : ℕ) {q : List ℕ} (i : ℕ) {c : ℕ} (r : Reduced n 33 q) (fits
   none : (k : ℕ) → k ≢ i → (x^ {𝓡 = Residues n} i) .coef k ≡ (Residues n) .𝟘
   none k ne = ⊎-elim (λ h. coef-power-low (Residues n) i k h) (λ h. monic-pow-x i .below .high k (omega (arith, ne))) (lt-or-le k i)
 
-  -- the coefficient k of the sum
-  at-sum : (k : ℕ) → (poly n q + constant (residue n c) · x^ i) .coef k
-      ≡ (Residues n) .add (residue n (getD q k 0)) ((Residues n) .mul (residue n c) ((x^ {𝓡 = Residues n} i) .coef k))
-  at-sum k = coef-add (poly n q) (constant (residue n c) · x^ i) k ∙ ap₂ ((Residues n) .add) (coef-poly n q k) (coef-constant-mul (residue n c) (x^ i) k)
-
   at : (k : ℕ) → Dec (k ≡ i) → residue n (getD (set q i c) k 0) ≡ (poly n q + constant (residue n c) · x^ i) .coef k
   at k (yes e) =
       subst (λ (j : ℕ). residue n (getD (set q i c) j 0) ≡ (poly n q + constant (residue n c) · x^ i) .coef j) (sym e)
       (ap (residue n) here
-      ∙ sym (at-sum i
+      ∙ sym (coef-added n q c (x^ i) i
       ∙ ap₂ ((Residues n) .add) (ap (residue n) free ∙ residue-zero n)
       (ap ((Residues n) .mul (residue n c)) (monic-pow-x i .leading) ∙ mul-one (Residues n) (residue n c))
       ∙ zero-add (Residues n) (residue n c)))
   at k (no ne) =
       ap (residue n) (other k ne)
-      ∙ sym (at-sum k
+      ∙ sym (coef-added n q c (x^ i) k
       ∙ ap ((Residues n) .add (residue n (getD q k 0))) (ap ((Residues n) .mul (residue n c)) (none k ne) ∙ mul-zero (Residues n) (residue n c))
       ∙ add-zero (Residues n) (residue n (getD q k 0)))
 

@@ -1,88 +1,91 @@
--- Multiples by x modulo a monic polynomial: `TimesX a d r`, the array r holds x·a. The loop of `times_power_of_x`.
--- Proves that coefficients moved up one place are x·a, that one turn of a division leaves its remainder, and how the loop begins, goes on and ends.
+-- Multiples by x modulo a monic polynomial: `MovedUp a r`, each coefficient of r is that of a one place lower. The loops of `move_up` and `times_power_of_x`.
+-- Proves that coefficients moved up one place are x·a, that one turn of a division leaves its remainder, and how the loops begin, go on and end.
 -- Assumes nothing.
 use mathlib.Core.Path.{_≡_, refl, sym, _∙_, ap, subst}
-use mathlib.Core.List.{List}
-use Prim.Native.Nat.{ℕ, zero, suc, _<_, _≤_, _-_, _+_ as _+ℕ_}
+use mathlib.Core.List.{List, _∷_}
+use mathlib.Core.Logic.{⊎-elim}
+use Prim.Native.Nat.{ℕ, zero, suc, _<_, _≤_, _-_, _+_ as _+ℕ_, zero-le}
 use native.Mathlib.Nat.{le-antisymm}
-use native.Mathlib.Numerals.{add-one, sub-one}
+use native.Mathlib.Numerals.{add-one}
 use native.Mathlib.Omega.{arith}
-use lib.ListN.{getD, replicate, length-replicate}
-use Rattle.loops.specs.Entries.{Replaced, replaced-each}
+use lib.ListN.{length, getD, set}
+use Rattle.loops.specs.Entries.{Replaced, replaced-none, replaced-down}
+use Rattle.algebra.specs.Numbers.{lt-or-le}
+use Rattle.algebra.specs.Ring.{zero-add}
 use Rattle.algebra.specs.Identities.{_⊖_, _⊗_, ⊝_, _≈_, solve}
 use Rattle.algebra.specs.Residues.{residue, Residues, residue-zero}
-use Rattle.algebra.specs.Polynomials.{PolyRing, _+_, _·_, -_, x, constant, poly-ext, coef-x-mul-zero, coef-x-mul-suc}
-use Rattle.algebra.specs.Degree.{Below, Monic, below-down, below-x-mul}
+use Rattle.algebra.specs.Polynomials.{PolyRing, _+_, _·_, -_, x, constant, constant-zero}
+use Rattle.algebra.specs.Degree.{Below, Monic, below-x-mul}
 use Rattle.algebra.specs.Division.{below-top}
-use Rattle.algebra.specs.CoefficientLists.{ℤ[x]/, poly, Reduced, coef-poly}
-use Rattle.algebra.specs.ListShapes.{getD-zeros}
+use Rattle.algebra.specs.CoefficientLists.{ℤ[x]/, poly, Reduced, coef-poly, poly-cons}
 use Rattle.algebra.specs.Congruence.{Congruent, congruent-equal, congruent-trans, congruent-mul}
 use Rattle.algebra.specs.Monomials.{x^, shift-zero, shift-suc}
-use Rattle.modular.specs.Coefficients.{Represents}
+use Rattle.modular.specs.Coefficients.{Represents, ZeroFrom}
 use Rattle.modular.specs.Multiples.{multiple-taken-off}
+use Rattle.modular.specs.Arrays.{same-poly}
 use Rattle.quotients.specs.Remainder.{Remainder, remainder-congruent}
 
--- modulo every n
-abbrev pub TimesX : List ℕ → ℕ → List ℕ → Type 0
-TimesX a d r = (n : ℕ) → Reduced n 33 a → Below d (poly n a) → Represents n r (x · poly n a)
+-- r is 0 and then a
+pub record MovedUp (a r : List ℕ) : Type 0 where
+  pub len : length r ≡ length a
+  pub each : (j : ℕ) → getD r j 0 ≡ getD (0 ∷ a) j 0
 
--- the entries from 1 to d are those of a one place lower
-pub moved-up : {a r : List ℕ} {d e : ℕ} → d < 33 → e ≡ d +ℕ 1 → Replaced 0 (λ j. getD a (j - 1) 0) (replicate 33 0) 1 r e → TimesX a d r
-moved-up {a} {r} {d} {e} l q w n ha small = record {
-  reduced = record {
-    len = w .len ∙ length-replicate {A = ℕ} 33 0;
-    low = replaced-each (λ j v. v < n) w (λ j l. nothing j) (λ j l u. ha .low (j - 1)) (λ j l. nothing j);
-  };
-  is = poly-ext (λ j. coef-poly n r j ∙ replaced-each (λ j v. residue n v ≡ (x · poly n a) .coef j) w first next last j);
+-- the entries from i + 1 to d are those of a one place lower
+pub record Moving (a : List ℕ) (d i : ℕ) (r : List ℕ) : Type 0 where
+  pub entries : Replaced 0 (λ j. getD (0 ∷ a) j 0) a (i +ℕ 1) r (d +ℕ 1)
+
+pub moving-none : {a : List ℕ} {d : ℕ} → Moving a d d a
+moving-none = record { entries = replaced-none }
+
+pub moving-more : {a : List ℕ} {d i : ℕ} {r : List ℕ} → Moving a d i r → 0 < i → i < length a → Moving a d (i - 1) (set r i (getD r (i - 1) 0))
+moving-more {a} {d} {i} {r} w pos fits = record {
+  entries = subst (λ (k : ℕ). Replaced 0 (λ j. getD (0 ∷ a) j 0) a k (set r i (getD r (i - 1) 0)) (d +ℕ 1)) (let e : i ≡ i - 1 +ℕ 1 = omega arith in e)
+      (replaced-down (w .entries) fits (w .entries .below (i - 1) (omega arith) ∙ lower i pos));
 }
   where
-    nothing : (j : ℕ) → getD (replicate 33 0) j 0 < n
-    nothing j = rw (getD-zeros 33 j) (omega (arith, ha .low 0))
+    lower : (i : ℕ) → 0 < i → getD a (i - 1) 0 ≡ getD (0 ∷ a) i 0
+    lower zero l = absurd (omega arith)
+    lower (suc i) l = ap (λ (k : ℕ). getD a k 0) (let e : suc i - 1 ≡ i = omega arith in e)
 
-    none : (j : ℕ) → residue n (getD (replicate 33 0) j 0) ≡ (Residues n) .𝟘
-    none j = ap (residue n) (getD-zeros 33 j) ∙ residue-zero n
+-- and 0 comes to stand in the first place
+pub moving-done : {a : List ℕ} {d i : ℕ} {r : List ℕ} → Moving a d i r → i ≤ 0 → d < length a → ZeroFrom d a → MovedUp a (set r 0 0)
+moving-done {a} {d} {i} {r} w l fits none = record {
+  len = all .len;
+  each = λ j. ⊎-elim (λ u. all .new j zero-le u) (λ u. all .above j u ∙ none j (omega arith) ∙ past j u) (lt-or-le j (d +ℕ 1));
+}
+  where
+    all : Replaced 0 (λ j. getD (0 ∷ a) j 0) a 0 (set r 0 0) (d +ℕ 1)
+    all = replaced-down (subst (λ (k : ℕ). Replaced 0 (λ j. getD (0 ∷ a) j 0) a (k +ℕ 1) r (d +ℕ 1)) (let e : i ≡ 0 = omega arith in e) (w .entries))
+        (omega arith) refl
 
-    first : (j : ℕ) → j < 1 → residue n (getD (replicate 33 0) j 0) ≡ (x · poly n a) .coef j
-    first zero l = none 0 ∙ sym (coef-x-mul-zero (poly n a))
-    first (suc j) l = absurd (omega arith)
+    past : (j : ℕ) → d +ℕ 1 ≤ j → 0 ≡ getD (0 ∷ a) j 0
+    past zero u = refl
+    past (suc j) u = sym (none j (omega arith))
 
-    next : (j : ℕ) → 1 ≤ j → j < e → residue n (getD a (j - 1) 0) ≡ (x · poly n a) .coef j
-    next zero l u = absurd (omega arith)
-    next (suc j) l u = rw sub-one (sym (coef-x-mul-suc (poly n a) j ∙ coef-poly n a j))
-
-    last : (j : ℕ) → e ≤ j → residue n (getD (replicate 33 0) j 0) ≡ (x · poly n a) .coef j
-    last zero l = absurd (omega arith)
-    last (suc j) l = none (suc j) ∙ sym (coef-x-mul-suc (poly n a) j ∙ small .high j (omega arith))
-
-module _ {n : ℕ} {a t : List ℕ} {d : ℕ} (ha : Reduced n 33 a) (small : Below d (poly n a)) (T : TimesX a d t) where
-  is : Represents n t (x · poly n a)
-  is = T n ha small
+module _ {n : ℕ} {a t : List ℕ} (ha : Reduced n 33 a) (T : MovedUp a t) where
+  is : poly n t ≡ x · poly n a
+  is =
+      same-poly n t (0 ∷ a) (T .each) ∙ poly-cons n 0 a ∙ ap (λ c. c + x · poly n a) (ap constant (residue-zero n) ∙ constant-zero (Residues n))
+      ∙ zero-add (PolyRing (Residues n)) (x · poly n a)
 
   pub moved-reduced : Reduced n 33 t
-  moved-reduced = is .reduced
-
-  below : Below (suc d) (poly n t)
-  below = rw (is .is) (below-x-mul small)
-
-  -- x·a is of lower degree than q
-  pub shift-low : {q : List ℕ} → getD t d 0 ≡ 0 → Remainder n q d t (x · poly n a)
-  shift-low e = record {
-    reduced = is .reduced;
-    small = below-down below (coef-poly n t d ∙ ap (residue n) e ∙ residue-zero n);
-    congruent = congruent-equal (PolyRing (Residues n)) (is .is);
-  }
+  moved-reduced = record { len = T .len ∙ ha .len; low = λ j. rw (T .each j) (low j) }
+    where
+      low : (j : ℕ) → getD (0 ∷ a) j 0 < n
+      low zero = omega (arith, ha .low 0)
+      low (suc j) = ha .low j
 
   -- the leading coefficient times q is taken off; n − c stands for −c
-  pub shift-high : {q r : List ℕ} → Monic d (poly n q) → Represents n r (poly n t + constant (residue n (n - getD t d 0)) · (x^ 0 · poly n q))
-      → Remainder n q d r (x · poly n a)
-  shift-high {q} {r} m h = record {
+  pub shifted : {d : ℕ} {q r : List ℕ} → Below d (poly n a) → Monic d (poly n q)
+      → Represents n r (poly n t + constant (residue n (n - getD t d 0)) · (x^ 0 · poly n q)) → Remainder n q d r (x · poly n a)
+  shifted {d} {q} {r} small m h = record {
     reduced = h .reduced;
-    small = rw less (below-top m (poly n t) below);
-    congruent = rw less (congruent-trans (PolyRing (Residues n)) (taken-off (constant (poly n t .coef d))) (congruent-equal (PolyRing (Residues n)) (is .is)));
+    small = rw less (below-top m (poly n t) (rw is (below-x-mul small)));
+    congruent = rw less (congruent-trans (PolyRing (Residues n)) (taken-off (constant (poly n t .coef d))) (congruent-equal (PolyRing (Residues n)) is));
   }
     where
       low : getD t d 0 < n
-      low = is .reduced .low d
+      low = moved-reduced .low d
 
       less : poly n r ≡ poly n t + - (constant (poly n t .coef d) · poly n q)
       less =

@@ -23,7 +23,7 @@ pub struct Element {
 
 // x^(p·i) - x^i modulo q for i below d: the images of the x^i under the map that takes v to v^p - v. p - 1 stands for minus one.
 fn images(q: [u16; 33], d: usize, p: u16) -> [Image; 33]
-    requires { ⌜ (1 < p) × (0 < d) × (d < 33) × Monic d (poly p q) ⌝ }
+    requires { ⌜ (1 < p) × (0 < d) × (d < 33) × Monic d (poly p q) × Reduced p 33 q ⌝ }
     ensures { λ r. ⌜ PowerImages p q d d r ⌝ }
 {
     let none = Image { coefs: [0u16; 33] };
@@ -44,7 +44,7 @@ fn images(q: [u16; 33], d: usize, p: u16) -> [Image; 33]
 
 // A v that is not constant, of lower degree than q, with v^p = v modulo q, where there is one.
 fn splitting_element(q: [u16; 33], d: usize, p: u16) -> Found
-    requires { ⌜ Prime p × (0 < d) × (d < 33) × Monic d (poly p q) ⌝ }
+    requires { ⌜ Prime p × (0 < d) × (d < 33) × Monic d (poly p q) × Reduced p 33 q ⌝ }
     ensures { λ r. ⌜ ElementFound p d q r ⌝ }
 {
     let t = images(q, d, p);
@@ -53,7 +53,7 @@ fn splitting_element(q: [u16; 33], d: usize, p: u16) -> Found
 
 // A splitting element of q: the one at hand, if it is known, or else one that is looked for. The degree that is given with it says nothing.
 pub fn element_of(q: [u16; 33], d: usize, e: Element, p: u16) -> Found
-    requires { ⌜ Prime p × (0 < d) × (d < 33) × Monic d (poly p q) × Known p d (poly p q) e ⌝ }
+    requires { ⌜ Prime p × (0 < d) × (d < 33) × Monic d (poly p q) × Reduced p 33 q × Known p d (poly p q) e ⌝ }
     ensures { λ r. ⌜ ElementFound p d q r ⌝ }
 {
     let v = e.v;
@@ -70,7 +70,7 @@ pub fn element_of(q: [u16; 33], d: usize, e: Element, p: u16) -> Found
 // What an element v of q, of degree d, is for a factor b of q, of degree j: a splitting element, unless v is constant modulo b. What is called
 // known is an element; that one is known where it could be is not promised, since only time rests on it.
 pub fn element_for(v: [u16; 33], d: usize, b: [u16; 33], j: usize, p: u16) -> Element
-    requires { ⌜ (d < 33) × (j < 33) × Reduced p 33 v × Below d (poly p v) × Monic j (poly p b) ⌝ }
+    requires { ⌜ (d < 33) × (j < 33) × Reduced p 33 v × Below d (poly p v) × Monic j (poly p b) × Reduced p 33 b ⌝ }
     ensures { λ r. ⌜ ForFactor p d v j b r ⌝ }
 {
     let r = remainder(v, d, b, j, p);

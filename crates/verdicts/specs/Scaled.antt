@@ -9,7 +9,7 @@ use native.Mathlib.Omega.{arith}
 use Rattle.specification.specs.Polynomials.{scale}
 use Rattle.specification.specs.Inverses.{inverse}
 use Rattle.algebra.specs.Numbers.{mul-mod-mod, mod-mul-mod}
-use Rattle.algebra.specs.Residues.{residue, residue-mod}
+use Rattle.algebra.specs.Residues.{residue}
 use Rattle.algebra.specs.Polynomials.{_·_, constant}
 use Rattle.algebra.specs.Degree.{Below, below-constant-mul}
 use Rattle.algebra.specs.CoefficientLists.{poly, poly-scale}
@@ -39,10 +39,10 @@ module _ (p m : ℕ) (large : 1 < p) (unit : m % p ≢ 0) where
       down = mod-mod-of-dvd p (c *ℕ (m % p)) (dvd-mul-right p p)
 
   -- item 8: "u = w/m modulo p"
-  pub divided-by : (c : ℕ) → Rule p (m % p) c → (w : List ℕ) {r : List ℕ}
-      → Represents p r (constant (residue p c) · poly p w) → Represents p r (poly p (scale p (inverse p m) w))
-  divided-by c rule w h = record {
+  pub divided-by : (c : ℕ) {e : ℕ} → Rule p (m % p) c → e ≡ c % p → (w : List ℕ) {r : List ℕ}
+      → Represents p r (constant (residue p e) · poly p w) → Represents p r (poly p (scale p (inverse p m) w))
+  divided-by c rule entry w h = record {
     reduced = h .reduced;
-    is = h .is ∙ ap (λ a. constant a · poly p w) (sym (residue-mod p (omega arith) c) ∙ ap (residue p) (sym (inverse-entry c rule)))
+    is = h .is ∙ ap (λ (a : ℕ). constant (residue p a) · poly p w) (entry ∙ sym (inverse-entry c rule))
         ∙ sym (poly-scale p (omega arith) (inverse p m) w);
   }

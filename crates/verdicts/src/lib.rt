@@ -62,7 +62,7 @@ struct Multiplicity {
 
 // a^k, where a is monic of degree d.
 fn power(a: [u16; 33], d: usize, k: usize, n: u16) -> [u16; 33]
-    requires { ⌜ (1 < n) × (k *ℕ d ≤ 32) × Monic d (poly n a) ⌝ }
+    requires { ⌜ (1 < n) × (k *ℕ d ≤ 32) × Monic d (poly n a) × Reduced n 33 a ⌝ }
     ensures { λ r. ⌜ Represents n r (pow (PolyRing (Residues n)) (poly n a) k) ⌝ }
 {
     let mut r = [0u16; 33];
@@ -89,7 +89,7 @@ fn h_bar(g: [u16; 33], d: usize, m: usize, part: [u16; 33], p: u16) -> [u16; 33]
 
 // Item 7: divides h by the monic g of degree d as long as it goes, at most m - 1 times.
 fn highest(h: [u16; 33], g: [u16; 33], d: usize, m: usize, p: u16) -> Multiplicity
-    requires { ⌜ Reduced p 33 h × Monic d (poly p g) × (1 ≤ m) × (m *ℕ d ≤ 32) × Below (m *ℕ d) (poly p h) × (poly p h ≢ 𝟎) ⌝ }
+    requires { ⌜ Reduced p 33 h × Monic d (poly p g) × (1 ≤ m) × (m *ℕ d ≤ 32) × Below (m *ℕ d) (poly p h) × (poly p h ≢ 𝟎) × Reduced p 33 g ⌝ }
     ensures { λ r. ⌜ HighestIn p h g (r .exponent) (r .cofactor) ⌝ }
 {
     let last = m - 1;
@@ -117,7 +117,7 @@ fn highest(h: [u16; 33], g: [u16; 33], d: usize, m: usize, p: u16) -> Multiplici
 
 // q + p·t modulo p², where t has s terms.
 fn lifted(q: [u16; 33], t: [u16; 33], s: usize, p: u16) -> [u16; 33]
-    requires { ⌜ (taken p ≡ true) × (s ≤ 33) × Reduced (p *ℕ p) 33 q × Below s (poly (p *ℕ p) t) ⌝ }
+    requires { ⌜ (taken p ≡ true) × (s ≤ 33) × Reduced (p *ℕ p) 33 q × Reduced p 33 t × Below s (poly p t) ⌝ }
     ensures { λ r. ⌜ Represents (p *ℕ p) r (poly (p *ℕ p) (lists.lift p q t)) ⌝ }
 {
     add_multiple(q, p, t, 0, s, p * p)
@@ -125,12 +125,12 @@ fn lifted(q: [u16; 33], t: [u16; 33], s: usize, p: u16) -> [u16; 33]
 
 // Item 8: u = w/m modulo p, where p does not divide m and w has s terms.
 fn divided_by_exponent(w: [u16; 33], s: usize, m: usize, p: u16) -> [u16; 33]
-    requires { ⌜ (taken p ≡ true) × (m % p ≢ 0) × (s ≤ 33) × Below s (poly p w) ⌝ }
+    requires { ⌜ (taken p ≡ true) × (m % p ≢ 0) × (s ≤ 33) × Below s (poly p w) × Reduced p 33 w ⌝ }
     ensures { λ r. ⌜ Represents p r (poly p (lists.scale p (inverses.inverse p m) w)) ⌝ }
 {
     let a = reduce(p, m as u64);
     let c = inverse(p as u8, a);
-    multiple(c, w, s, p)
+    multiple(reduce(p, c as u64), w, s, p)
 }
 
 // Item 8: "p does not divide m and m1 = m − 1".
@@ -144,7 +144,7 @@ fn is_last_power(m: usize, k: usize, p: u16) -> bool
 
 // Item 8: g + p·u, where u = w/m and w is of lower degree than g, which is of degree d.
 fn root(g: [u16; 33], d: usize, w: [u16; 33], m: usize, p: u16) -> [u16; 33]
-    requires { ⌜ (taken p ≡ true) × (m % p ≢ 0) × (d ≤ 32) × Reduced (p *ℕ p) 33 g × Below d (poly p w) ⌝ }
+    requires { ⌜ (taken p ≡ true) × (m % p ≢ 0) × (d ≤ 32) × Reduced (p *ℕ p) 33 g × Below d (poly p w) × Reduced p 33 w ⌝ }
     ensures { λ r. ⌜ Represents (p *ℕ p) r (poly (p *ℕ p) (lists.lift p g (lists.scale p (inverses.inverse p m) w))) ⌝ }
 {
     let u = divided_by_exponent(w, d, m, p);
@@ -153,7 +153,7 @@ fn root(g: [u16; 33], d: usize, w: [u16; 33], m: usize, p: u16) -> [u16; 33]
 
 // Item 9: g^k + p·w, where w is of lower degree than g^k and g is monic of degree d.
 fn last_factor(g: [u16; 33], d: usize, k: usize, w: [u16; 33], p: u16) -> [u16; 33]
-    requires { ⌜ (taken p ≡ true) × (k *ℕ d ≤ 32) × Monic d (poly (p *ℕ p) g) × Reduced p 33 w × Below (k *ℕ d) (poly p w) ⌝ }
+    requires { ⌜ (taken p ≡ true) × (k *ℕ d ≤ 32) × Monic d (poly (p *ℕ p) g) × Reduced p 33 w × Below (k *ℕ d) (poly p w) × Reduced (p *ℕ p) 33 g ⌝ }
     ensures { λ r. ⌜ Represents (p *ℕ p) r (poly (p *ℕ p) (lists.lift p (lists.pow (p *ℕ p) g k) w)) ⌝ }
 {
     let q = power(g, d, k, p * p);

@@ -27,8 +27,14 @@ base-of-power-spec =
     (λ c κs.
     let h = c .before .before .before .before .before .before .pre in
     let B = c .before .before .before .before .before .separable-power .ensures .0 in
-    let g = c .before .before .common-divisor .ensures in
-    (B .reduced, omega (arith, h .2, B .small), omega (arith, h .2, B .small, g .limit), rw add-one (B .monic .below), g .monic))  -- divide-requires
+    let g = c .before .before .common-divisor .ensures in (
+      B .reduced,
+      g .reduced,
+      omega (arith, h .2, B .small),
+      omega (arith, h .2, B .small, g .limit),
+      rw add-one (B .monic .below),
+      g .monic,
+    ))  -- divide-requires
     (λ c. search needs)  -- sub-t11
     (λ c.
     let h = c .before .before .before .before .before .before .before .before .before .before .pre in

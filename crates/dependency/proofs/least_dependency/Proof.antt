@@ -1,81 +1,137 @@
--- `dependency::least_dependency` meets its contract.
+-- `dependency::least_dependency` meets its contract. A turn takes the next image in hand, or a term off it, or stores it.
 -- Assumes nothing.
-use Prim.Native.Nat.{_-_}
+use mathlib.Core.Path.{sym}
+use mathlib.Core.Bool.{cond}
+use mathlib.Core.Logic.{⊎-elim}
+use Prim.Native.Nat.{_-_, _+_, _*_}
 use native.Mathlib.Nat.{pos-of-ne-zero}
 use native.Mathlib.Omega.{arith}
 use borrow.Author.Needs.{needs}
 use Rattle.algebra.specs.Degree.{below-up}
 use Rattle.modular.specs.Coefficients.{below-size}
-use Rattle.dependency.specs.Rows.{stage-rows}
+use Rattle.modular.specs.Arrays.{zero-above}
+use Rattle.dependency.specs.Rows.{slot-filled}
+use Rattle.dependency.specs.Reduction.{reduced-more}
 use Rattle.dependency.specs.Storing.{row-stored}
-use Rattle.dependency.specs.Dependency.{Searching, searching-none, searching-found, searching-more, searching-done, monic-preimage}
+use Rattle.dependency.specs.Dependency.{
+  Searching,
+  InHand,
+  none-in-hand,
+  in-hand,
+  reduced-none,
+  searching-none,
+  searching-found,
+  searching-more,
+  searching-done,
+}
 use Rattle.dependency.proofs.least_dependency.Statement.{statement}
 use Rattle.dependency.proofs.least_dependency.Tie as tie
 
 abbrev Inv-loop : tie.InvT-loop
-Inv-loop first d p images rows₀ i₀ rows i = Searching p images first d i rows
+Inv-loop first d p images rows₀ image₀ preimage₀ k₀ fresh₀ i₀ rows image preimage k fresh i =
+    Searching p images first d i rows × InHand p images first d i rows image preimage k fresh
 
 abbrev μ-loop : tie.MeasureT-loop
-μ-loop first d p images rows₀ i₀ rows i = d - i
+μ-loop first d p images rows₀ image₀ preimage₀ k₀ fresh₀ i₀ rows image preimage k fresh i = (d - i) * 35 + cond fresh 34 k
 
 pub least-dependency-spec : {M : Type 1} → statement M
 least-dependency-spec =
     tie.close
     (tie.spec Inv-loop μ-loop
     (λ c κs. search needs)  -- no-rows-requires
-    (λ c. searching-none (c .before .pre .0) (c .before .pre .1) (c .no-rows .ensures))  -- loop-holds
-    (λ c. search needs)  -- mul-image
-    (λ c. search needs)  -- array-copy-out-image
+    (λ c. (searching-none (c .before .pre .0) (c .before .pre .1) (c .no-rows .ensures), none-in-hand (search needs)))  -- loop-holds
+    (λ c. search needs)  -- mul-start
+    (λ c. search needs)  -- array-copy-out-start
     (λ c κs. search needs)  -- monomial-requires
-    (λ c κs.
-    let pre = c .before .before .before .before .before .before .pre in
-    let i = c .before .before .before .before .loop .i in
-    let l = c .before .before .before .loop-test .taken in (
-      pre .0 .large,
-      search needs,
-      search needs,
-      stage-rows _ (c .before .before .before .before .loop .inv .reduced) (c .before .before .before .before .loop .inv .stage),
-      pre .3 .reduced i l,
-      c .monomial .ensures _ (pre .0 .large) .reduced,
-      pre .3 .small i l,
-    ))  -- reduce-by-rows-requires
-    (λ c κs. search needs)  -- size-requires
     (λ c.
-    let m = c .before .before .before .before .before in
-    searching-found (m .before .before .before .before .before .before .pre .0) (m .before .before .before .loop-test .taken)
-    (m .before .before .before .before .loop .inv) (m .monomial .ensures) (c .before .before .before .before .reduce-by-rows .ensures)
-    (c .before .size .ensures) (c .if1 .taken))  -- returns
+    let turn = c .before .before .before .before .before in
+    sym (turn .before .before .before .pre .3 .reduced (turn .before .loop .i) (turn .loop-test .taken) .len))  -- slice-aggregate-size-below
+    (λ c κs.
+    let turn = c .before .before .before .before .before in
+    let images = turn .before .before .before .pre .3 in
+    let reduced = images .reduced (turn .before .loop .i) (turn .loop-test .taken) in
+    (search needs, omega (arith, reduced .len), zero-above reduced (images .small (turn .before .loop .i) (turn .loop-test .taken))))  -- size-below-requires
+    (λ c. rw (c .before .before .before .before .before .if1 .taken) (omega (arith, c .size-below .ensures .limit)))  -- loop-less
+    (λ c.
+    let turn = c .before .before .before .before .before .before in
+    let pre = turn .before .before .before .pre in
+    let searching = turn .before .loop .inv .0 in
+    let monomial = c .before .before .monomial .ensures in
+    (searching, in-hand (reduced-none (pre .0) (pre .3) (turn .loop-test .taken) searching monomial (c .size-below .ensures))))  -- loop-again
+    (λ c. search needs)  -- sub-row
+    (λ c. search needs)  -- mul-row
+    (λ c. search needs)  -- array-copy-out-row
+    (λ c. search needs)  -- sub-if3
+    (λ c. search needs)  -- mul-if3
+    (λ c. search needs)  -- array-read-if3
     (λ c. search needs)  -- sub-monic-row
     (λ c κs.
-    let m = c .before .before .before .before .before in
-    let prime = m .before .before .before .before .before .before .pre .0 in
-    let reduced = c .before .before .before .before .reduce-by-rows .ensures in
-    let s = c .before .size .ensures in
-    let monic =
-    monic-preimage prime (m .before .before .before .loop-test .taken) (m .before .before .before .before .loop .inv) (m .monomial .ensures) reduced s in (
-      prime,
-      omega (arith, s .limit, c .if1 .left),
+    let begun = c .before .before .before in
+    let left = begun .before .before .before .loop .inv .1 .reduced (begun .before .if1 .left) in
+    let pos = pos-of-ne-zero (begun .if2 .left) in (
+      begun .before .before .before .before .before .pre .0,
       search needs,
-      reduced .reduced .image,
-      pos-of-ne-zero (s .top (pos-of-ne-zero (c .if1 .left))),
-      below-up (omega arith) (below-size _ s),
-      below-up (omega arith) (monic .below),
+      search needs,
+      left .image,
+      pos-of-ne-zero (left .size .top pos),
+      below-up (omega arith) (below-size _ (left .size)),
+      left .preimage,
+      below-up (omega arith) (left .reducing .monic .below),
     ))  -- monic-row-requires
     (λ c. search needs)  -- sub-rows
-    (λ c. search (needs, c .before .before .size .ensures .limit))  -- mul-rows
-    (λ c. search (needs, c .before .before .size .ensures .limit))  -- array-set-from-rows
+    (λ c. search needs)  -- mul-rows
+    (λ c. search needs)  -- array-set-from-rows
     (λ c. search needs)  -- add-i
-    (λ c. search needs)  -- loop-less
+    (λ c. rw (c .before .before .before .before .before .if1 .left) (omega arith))  -- loop-less-2
     (λ c.
-    let m = c .before .before .before .before .before .before in
-    searching-more (m .before .before .before .before .before .before .pre .0) (m .before .before .before .loop-test .taken)
-    (m .before .before .before .before .loop .inv) (m .monomial .ensures) (c .before .before .before .before .before .reduce-by-rows .ensures)
-    (c .before .before .size .ensures) (pos-of-ne-zero (c .before .if1 .left))
-    (row-stored (omega (
-      arith,
-      m .before .before .before .before .loop .inv .slots,
-      c .before .before .size .ensures .limit,
-      pos-of-ne-zero
-          (c .before .if1 .left),
-    )) (c .monic-row .ensures)))  -- loop-again
-    (λ c. searching-done (c .loop-test .left) (c .before .loop .inv)))  -- returns-2
+    let begun = c .before .before .before .before in
+    let turn = begun .before .before in
+    let loop = turn .before .loop in
+    let pos = pos-of-ne-zero (begun .if2 .left) in
+    let stored = row-stored (omega (arith, loop .inv .0 .slots, loop .inv .1 .limit, pos)) (c .monic-row .ensures) in
+    let left = loop .inv .1 .reduced (begun .before .if1 .left) in (
+      searching-more (turn .before .before .before .pre .0) (turn .loop-test .taken) (loop .inv .0) left pos (c .before .if3 .taken) stored,
+      none-in-hand (loop .inv .1 .limit),
+    ))  -- loop-again-2
+    (λ c.
+    let begun = c .before .before .before .before .before in
+    sym (begun .before .before .before .loop .inv .1 .reduced (begun .before .if1 .left) .image .len))  -- slice-aggregate-take-off
+    (λ c.
+    let begun = c .before .before .before .before .before .before in
+    sym (begun .before .before .before .loop .inv .1 .reduced (begun .before .if1 .left) .preimage .len))  -- slice-aggregate-take-off-2
+    (λ c.
+    let loop = c .before .before .before .before .before .before .before .before .before .before .loop in
+    sym (loop .inv .0 .reduced (loop .k - 1) (search needs) .image .len))  -- slice-aggregate-take-off-3
+    (λ c.
+    let loop = c .before .before .before .before .before .before .before .before .before .before .before .loop in
+    sym (loop .inv .0 .reduced (loop .k - 1) (search needs) .preimage .len))  -- slice-aggregate-take-off-4
+    (λ c κs.
+    let begun = c .before .before .before .before .before .before .before .before in
+    let loop = begun .before .before .before .loop in
+    let left = loop .inv .1 .reduced (begun .before .if1 .left) in
+    let stage = loop .inv .0 .stage in
+    let row = loop .inv .0 .reduced (loop .k - 1) (search needs) in (
+      pos-of-ne-zero (begun .if2 .left),
+      search needs,
+      left .image,
+      left .size,
+      left .preimage,
+      row .image,
+      slot-filled (loop .rows) (loop .k - 1) (stage .slots (loop .k - 1)) row (c .before .before .before .before .before .if3 .left),
+      row .preimage,
+      stage .preimage (loop .k - 1) .below,
+    ))  -- take-off-requires
+    (λ c.
+    let begun = c .before .before .before .before .before .before .before .before .before .before .before in
+    rw (begun .before .if1 .left) (omega (arith, c .before .before .take-off .ensures .fewer)))  -- loop-less-3
+    (λ c.
+    let begun = c .before .before .before .before .before .before .before .before .before .before .before in
+    let inv = begun .before .before .before .loop .inv in
+    let left = inv .1 .reduced (begun .before .if1 .left) in
+    (inv .0, in-hand (reduced-more (pos-of-ne-zero (begun .if2 .left)) (inv .0 .stage) left (c .before .before .take-off .ensures))))  -- loop-again-3
+    (λ c.
+    let prime = c .before .before .before .pre .0 in
+    let loop = c .before .loop in
+    ⊎-elim (λ end. searching-done (end .left) (loop .inv .0))
+    (λ (test, begun, none). searching-found prime (test .taken) (loop .inv .0) (loop .inv .1 .reduced (begun .left)) (none .taken))
+    (c .loop-test .came)))  -- returns

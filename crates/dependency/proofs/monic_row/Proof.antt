@@ -1,7 +1,6 @@
 -- `dependency::monic_row` meets its contract.
 -- Assumes nothing.
 use borrow.Author.Needs.{needs}
-use Rattle.algebra.specs.Fields.{prime-pos}
 use Rattle.dependency.specs.Storing.{monic-row}
 use Rattle.dependency.proofs.monic_row.Statement.{statement}
 use Rattle.dependency.proofs.monic_row.Tie as tie
@@ -12,11 +11,11 @@ monic-row-spec =
     (tie.spec
     (λ c. search needs)  -- mul-inverse
     (λ c. search needs)  -- array-read-inverse
-    (λ c κs. let pre = c .before .before .pre in (pre .0, pre .4, pre .3 .low (c .before .before .args .k)))  -- inverse-requires
+    (λ c κs. (c .pre .0, c .pre .4, c .pre .3 .low (c .args .k)))  -- inverse-requires
     (λ c. search needs)  -- add-multiple
-    (λ c κs. let pre = c .before .before .before .pre in (prime-pos (pre .0), search needs, pre .5))  -- multiple-requires
+    (λ c κs. search needs)  -- multiple-requires
     (λ c. search needs)  -- add-multiple-2
-    (λ c κs. let pre = c .before .before .before .before .pre in (prime-pos (pre .0), search needs, pre .6))  -- multiple-requires-2
+    (λ c κs. search needs)  -- multiple-requires-2
     (λ c.
-    let pre = c .before .before .before .before .before .pre in
-    monic-row (pre .0) _ (c .before .before .inverse .ensures .1) (c .before .multiple .ensures) (c .multiple2 .ensures)))  -- returns
+    let unit = c .before .before in
+    monic-row (unit .before .pre .0) _ (unit .inverse .ensures .1) (c .before .multiple .ensures) (c .multiple2 .ensures)))  -- returns

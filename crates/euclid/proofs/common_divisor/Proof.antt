@@ -21,13 +21,16 @@ common-divisor-spec =
     (λ c κs. search needs)  -- size-requires
     (λ c.
     let h = c .before .pre in
-    (same-first _ _ _ _ _, successive-first _ _ _ _ _ (h .1) (h .2) (h .3) (h .4) (h .5) (c .size .ensures), le-refl _))  -- loop-holds
+    (same-first _ _ _ _ _, successive-first _ _ _ _ _ (h .0 .large) (h .1) (h .2) (h .3) (h .4) (h .5) (c .size .ensures), le-refl _))  -- loop-holds
     (λ c κs. search needs)  -- next-remainder-requires
     (λ c. c .next-remainder .ensures .falls)  -- loop-less
     (λ c.
     let n = c .next-remainder .ensures in
     let i = c .before .before .before .loop .inv in
     (n .same _ _ (i .0), n .successive, le-trans (n .lower) (i .2)))  -- loop-again
-    (λ c.
+    (λ c κs.
     let i = c .before .before .before .loop .inv in
-    gcd-of-remainders (i .0) (i .1) (i .2) (c .before .if1 .left)))  -- returns
+    (c .before .before .before .before .before .pre .0, i .1 .former, i .1 .leading))  -- monic-multiple-requires
+    (λ c.
+    let i = c .before .before .before .before .before .loop .inv in
+    gcd-of-remainders (i .0) (i .1) (i .2) (c .before .before .before .if1 .left) (c .before .monic-multiple .ensures)))  -- returns

@@ -2,6 +2,9 @@
 -- Assumes nothing.
 use native.Mathlib.Omega.{arith}
 use borrow.Author.Needs.{needs}
+use Rattle.modular.specs.Division.{quotient-terms}
+use Rattle.modular.specs.Arrays.{leading-pos}
+use Rattle.euclid.specs.MonicMultiples.{monic-by-inverse}
 use Rattle.euclid.specs.DividedRow.{divided-row}
 use Rattle.euclid.proofs.divide_row.Statement.{statement}
 use Rattle.euclid.proofs.divide_row.Tie as tie
@@ -10,12 +13,30 @@ pub divide-row-spec : {M : Type 1} → statement M
 divide-row-spec =
     tie.close
     (tie.spec
-    (λ c κs. search needs)  -- divide-requires
+    (λ c. search needs)  -- mul-inverse
+    (λ c. search needs)  -- array-read-inverse
     (λ c κs.
-    let h = c .before .before .before .before .before .pre in
-    (omega (arith, h .4 .dividend .remainder .low 0), h .2, h .4 .divisor .small, h .3))  -- product-modulo-requires
+    let h = c .before .before .pre in
+    (h .0, leading-pos _ _ (h .4 .size), h .4 .divisor .remainder .low _))  -- inverse-requires
+    (λ c κs.
+    let h = c .before .before .before .pre in
+    let by = monic-by-inverse (h .0) (h .4 .size) (c .inverse .ensures .1) in
+    (h .4 .dividend .remainder, h .4 .divisor .remainder, h .2, omega arith, h .4 .terms, by))  -- divide-by-requires
+    (λ c. search needs)  -- sub-product
+    (λ c κs.
+    let h = c .before .before .before .before .before .before .pre in
+    let division = c .before .before .divide-by .ensures in
+    let by = monic-by-inverse (h .0) (h .4 .size) (c .before .before .before .inverse .ensures .1) in (
+      division .quotient,
+      h .4 .divisor .cofactor,
+      omega arith,
+      h .3,
+      quotient-terms _ _ _ by (h .4 .terms) division,
+      h .4 .divisor .small,
+    ))  -- product-requires
     (λ c κs. search needs)  -- difference-requires
     (λ c.
-    let h = c .before .before .before .before .before .before .before .before .before .pre in
-    divided-row (h .4) (c .before .before .before .before .before .before .divide .ensures)
-    (c .before .before .before .product-modulo .ensures) (c .before .difference .ensures)))  -- returns
+    let h = c .before .before .before .before .before .before .before .before .before .before .pre in
+    let by = monic-by-inverse (h .0) (h .4 .size) (c .before .before .before .before .before .before .before .inverse .ensures .1) in
+    divided-row (h .1) (h .4) by (c .before .before .before .before .before .before .divide-by .ensures)
+    (c .before .before .before .product .ensures) (c .before .difference .ensures)))  -- returns

@@ -1,10 +1,9 @@
 -- `euclid::monic_multiple` meets its contract.
 -- Assumes nothing.
-use native.Mathlib.Nat.{pos-of-ne-zero}
 use borrow.Author.Needs.{needs}
 use Rattle.modular.specs.Coefficients.{below-size}
-use Rattle.algebra.specs.Fields.{prime-pos}
-use Rattle.euclid.specs.MonicMultiples.{monic-by-inverse}
+use Rattle.modular.specs.Arrays.{leading-pos}
+use Rattle.euclid.specs.MonicMultiples.{monic-by-inverse, monic-multiple}
 use Rattle.euclid.proofs.monic_multiple.Statement.{statement}
 use Rattle.euclid.proofs.monic_multiple.Tie as tie
 
@@ -12,11 +11,14 @@ pub monic-multiple-spec : {M : Type 1} → statement M
 monic-multiple-spec =
     tie.close
     (tie.spec
-    (λ c. search needs)  -- sub-inverse
     (λ c. search needs)  -- mul-inverse
     (λ c. search needs)  -- array-read-inverse
-    (λ c κs. (c .pre .0, pos-of-ne-zero (c .pre .2 .top (c .pre .3)), c .pre .1 .low _))  -- inverse-requires
-    (λ c κs. (prime-pos (c .before .pre .0), c .before .pre .2 .limit, below-size _ (c .before .pre .2)))  -- multiple-requires
+    (λ c κs. (c .pre .0, leading-pos _ _ (c .pre .2), c .pre .1 .low _))  -- inverse-requires
+    (λ c. search needs)  -- add-multiple
+    (λ c κs.
+    let h = c .before .pre in
+    (search needs, h .2 .limit, h .1, below-size _ (h .2)))  -- multiple-requires
     (λ c.
     let h = c .before .before .pre in
-    monic-by-inverse (h .0) (h .2) (h .3) (c .before .inverse .ensures .1) (c .multiple .ensures)))  -- returns
+    let inverse = c .before .inverse .ensures in
+    monic-multiple (monic-by-inverse (h .0) (h .2) (inverse .1)) (inverse .0) (c .multiple .ensures)))  -- returns

@@ -1,6 +1,8 @@
 -- `euclid::next` meets its contract.
 -- Assumes nothing.
+use native.Mathlib.Omega.{arith}
 use borrow.Author.Needs.{needs}
+use Rattle.modular.specs.Arrays.{zero-above}
 use Rattle.euclid.specs.Next.{operands, next-rows}
 use Rattle.euclid.proofs.next.Statement.{statement}
 use Rattle.euclid.proofs.next.Tie as tie
@@ -10,12 +12,26 @@ next-spec =
     tie.close
     (tie.spec
     (λ c. search needs)  -- sub-e
-    (λ c κs. search needs)  -- monic-row-requires
     (λ c. search needs)  -- add-divide-row
+    (λ c. search needs)  -- add-divide-row-2
+    (λ c. search needs)  -- sub-divide-row
     (λ c κs.
-    let h = c .before .before .before .pre in
-    (search needs, search needs, h .1, h .2, operands (h .3) (c .before .monic-row .ensures)))  -- divide-row-requires
-    (λ c κs. search needs)  -- size-requires
+    let h = c .before .before .before .before .pre in
+    let formed = h .2 in (
+      h .0,
+      omega (arith, formed .fewer),
+      formed .leading .limit,
+      omega (arith, formed .limit, formed .fewer),
+      operands formed (h .3),
+    ))  -- divide-row-requires
+    (λ c. search needs)  -- slice-aggregate-size-below
+    (λ c κs.
+    let formed = c .before .before .before .before .before .before .before .pre .2 in
+    let divided = c .before .before .divide-row .ensures in (
+      omega (arith, formed .size .limit),
+      omega (arith, formed .size .limit, divided .reduced .remainder .len),
+      zero-above (divided .reduced .remainder) (divided .small),
+    ))  -- size-below-requires
     (λ c.
-    let h = c .before .before .before .before .before .before .pre in
-    next-rows (h .3) (h .4) (c .before .before .before .before .monic-row .ensures) (c .before .before .divide-row .ensures) (c .size .ensures)))  -- returns
+    let h = c .before .before .before .before .before .before .before .before .pre in
+    next-rows (h .2) (h .3) (c .before .before .before .divide-row .ensures) (c .size-below .ensures)))  -- returns

@@ -1,8 +1,10 @@
 -- `euclid::next_remainder` meets its contract.
 -- Assumes nothing.
-use native.Mathlib.Numerals.{add-one}
 use native.Mathlib.Omega.{arith}
 use borrow.Author.Needs.{needs}
+use Rattle.modular.specs.Coefficients.{below-size}
+use Rattle.modular.specs.Arrays.{zero-above, size-degree, leading-pos}
+use Rattle.euclid.specs.MonicMultiples.{monic-by-inverse}
 use Rattle.euclid.specs.Remainders.{after}
 use Rattle.euclid.proofs.next_remainder.Statement.{statement}
 use Rattle.euclid.proofs.next_remainder.Tie as tie
@@ -12,19 +14,30 @@ next-remainder-spec =
     tie.close
     (tie.spec
     (λ c. search needs)  -- sub-e
+    (λ c. search needs)  -- mul-inverse
+    (λ c. search needs)  -- array-read-inverse
     (λ c κs.
     let h = c .before .before .before .pre in
-    (h .0, h .1 .latter, h .1 .size, h .2))  -- monic-multiple-requires
-    (λ c. search needs)  -- add-remainder
+    (h .0, leading-pos _ _ (size-degree (h .2) (h .1 .size)), h .1 .latter .low _))  -- inverse-requires
+    (λ c. search needs)  -- add-divide-by
     (λ c κs.
-    let h = c .before .before .before .before .before .before .pre .1 in (
-      h .former,
-      omega (arith, h .fits),
-      omega (arith, h .fits, h .fewer),
-      rw add-one (h .monic .below),
-      c .before .before .monic-multiple .ensures .monic,
-    ))  -- remainder-requires
-    (λ c κs. search needs)  -- size-requires
+    let h = c .before .before .before .before .before .pre in
+    let two = h .1 in (
+      two .former,
+      two .latter,
+      two .leading .limit,
+      omega (arith, two .size .limit),
+      below-size _ (two .leading),
+      monic-by-inverse (h .0) (size-degree (h .2) (two .size)) (c .before .inverse .ensures .1),
+    ))  -- divide-by-requires
+    (λ c. search needs)  -- slice-aggregate-size-below
+    (λ c κs.
+    let two = c .before .before .before .before .before .before .before .before .pre .1 in
+    let divided = c .before .before .divide-by .ensures in (
+      omega (arith, two .size .limit),
+      omega (arith, two .size .limit, divided .remainder .len),
+      zero-above (divided .remainder) (divided .small),
+    ))  -- size-below-requires
     (λ c.
-    let h = c .before .before .before .before .before .before .before .before .pre in
-    after (h .1) (h .2) (c .before .before .before .before .monic-multiple .ensures) (c .before .remainder .ensures) (c .size .ensures)))  -- returns
+    let h = c .before .before .before .before .before .before .before .before .before .pre in
+    after (h .1) (h .2) (c .before .before .before .divide-by .ensures) (c .size-below .ensures)))  -- returns

@@ -16,8 +16,14 @@ cut-in-two-spec =
     (tie.spec
     (λ c κs. search needs)  -- bar-requires
     (λ c κs.
-    let M = c .before .pre .0 in
-    (is-prime (M .prime), M .positive, M .fits, bar-is-monic M (c .bar .ensures), bar-known M (c .bar .ensures) (c .before .pre .1)))  -- element-of-requires
+    let M = c .before .pre .0 in (
+      is-prime (M .prime),
+      M .positive,
+      M .fits,
+      bar-is-monic M (c .bar .ensures),
+      c .bar .ensures .reduced,
+      bar-known M (c .bar .ensures) (c .before .pre .1),
+    ))  -- element-of-requires
     (λ c κs.
     let d = c .before .before in
     let e = d .element-of .ensures in
@@ -29,17 +35,17 @@ cut-in-two-spec =
     let e = c .before .before .before .before .before .before .element-of .ensures in
     let s = c .before .before .before .before .before .if1 .taken in
     let M = c .before .before .before .before .before .before .before .before .pre .0 in
-    (M .fits, omega (arith, M .fits), e .reduced s, e .splits s .small, h .monic-second))  -- element-for-requires
-    (λ c. search needs)  -- sub-lift
+    (M .fits, omega (arith, M .fits), e .reduced s, e .splits s .small, h .monic-second, h .second))  -- element-for-requires
+    (λ c. search needs)  -- sub-lift-halves
     (λ c κs.
     let h = c .before .before .before .before .before .halve .ensures in
     let b = c .before .before .before .before .before .before .before .before .before in
-    (factors-given (b .before .pre .0) (b .bar .ensures) h, pair-given (b .before .pre .0) (b .bar .ensures) h))  -- lift-requires
+    (h .positive, factors-given (b .before .pre .0) (b .bar .ensures) h, pair-given (b .before .pre .0) (b .bar .ensures) h))  -- lift-halves-requires
     (λ c.
     let h = c .before .before .before .before .before .before .before .before .halve .ensures in
     let b = c .before .before .before .before .before .before .before .before .before .before .before .before in
     let M = b .before .pre .0 in
-    let lifted = c .before .before .lift .ensures in
+    let lifted = c .before .before .lift-halves .ensures in
     let element = c .before .before .before .before .before .before .before .before .before .before .before .element-of .ensures .splits
     (c .before .before .before .before .before .before .before .before .before .before .if1 .taken) in
     record {

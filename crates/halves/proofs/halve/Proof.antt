@@ -20,7 +20,7 @@ halve-spec =
     tie.close
     (tie.spec Inv-loop μ-loop
     (λ c S. below-none _)  -- loop-holds
-    (λ c κs. (c .before .before .pre .element, search needs))  -- less-constant-requires
+    (λ c κs. let S = c .before .before .pre in (S .element, search needs, S .prime .large))  -- less-constant-requires
     (λ c κs.
     let S = c .before .before .before .pre in
     let w = c .less-constant .ensures in
@@ -29,7 +29,7 @@ halve-spec =
     (λ c κs.
     let S = c .before .before .before .before .before .before .before .pre in
     let g = c .before .before .before .common-divisor .ensures in
-    (S .reduced, omega (arith, S .fits), omega (arith, S .fits, g .limit), rw add-one (S .monic .below), g .monic))  -- divide-requires
+    (S .reduced, g .reduced, omega (arith, S .fits), omega (arith, S .fits, g .limit), rw add-one (S .monic .below), g .monic))  -- divide-requires
     (λ c.
     let S = c .before .before .before .before .before .before .before .before .before .pre in
     let d = c .before .before .before .before .before in

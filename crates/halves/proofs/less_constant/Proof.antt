@@ -2,7 +2,7 @@
 -- Assumes nothing.
 use native.Mathlib.Omega.{arith}
 use borrow.Author.Needs.{needs}
-use Rattle.modular.specs.Coefficients.{below-unit}
+use Rattle.modular.specs.Coefficients.{unit, below-unit}
 use Rattle.halves.specs.Splitting.{less-constant}
 use Rattle.halves.proofs.less_constant.Statement.{statement}
 use Rattle.halves.proofs.less_constant.Tie as tie
@@ -13,5 +13,5 @@ less-constant-spec =
     (tie.spec
     (λ c. search needs)  -- array-write-unit
     (λ c. search needs)  -- sub-add-multiple
-    (λ c κs. (c .pre .0, below-unit _ 32, search needs))  -- add-multiple-requires
+    (λ c κs. (search needs, c .pre .0, unit _ (c .pre .2) .reduced, below-unit _ 32, search needs))  -- add-multiple-requires
     (λ c. less-constant _ _ _ _ (omega (arith, c .before .pre .0 .low 0)) (c .before .pre .1) (c .add-multiple .ensures)))  -- returns

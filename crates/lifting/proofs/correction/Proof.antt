@@ -15,11 +15,12 @@ correction-spec =
     (λ c κs. search needs)  -- remainder-requires
     (λ c κs.
     let G = c .before .pre in
-    (omega (arith, G .reduced .low 0), omega (arith, G .fits), G .inverse .small, G .monic-second))  -- product-modulo-requires
+    (omega (arith, G .fits), c .remainder .ensures .reduced, G .inverse .reduced, G .second, G .inverse .small, G .monic-second))  -- product-modulo-requires
     (λ c. search needs)  -- add-product
     (λ c κs.
     let G = c .before .before .pre in (
-      omega (arith, G .reduced .low 0),
+      c .product-modulo .ensures .reduced,
+      G .first,
       omega (arith, G .fits),
       omega (arith, G .fits),
       c .product-modulo .ensures .small,
@@ -32,6 +33,7 @@ correction-spec =
     let d = c .before .before .before in
     let G = d .before .pre in (
       c .difference .ensures .reduced,
+      G .second,
       omega (arith, G .fits),
       omega (arith, G .fits),
       small-left G (d .remainder .ensures) (c .before .before .product-modulo .ensures) (c .before .product .ensures) (c .difference .ensures),

@@ -3,8 +3,8 @@
 use native.Mathlib.Numerals.{add-one}
 use native.Mathlib.Omega.{arith}
 use borrow.Author.Needs.{needs}
-use Rattle.algebra.specs.Numbers.{square-large}
 use Rattle.modular.specs.Widths.{square-width}
+use Rattle.modular.specs.Arrays.{reduced-square}
 use Rattle.lifting.specs.Defect.{first-monic, second-monic, defect-is}
 use Rattle.lifting.proofs.defect.Statement.{statement}
 use Rattle.lifting.proofs.defect.Tie as tie
@@ -18,7 +18,8 @@ defect-spec =
     (λ c. search needs)  -- add-product-2
     (λ c κs.
     let F = c .pre .1 in (
-      omega (arith, square-large (c .args .p) (F .prime .large)),
+      reduced-square (F .first),
+      reduced-square (F .second),
       omega (arith, F .fits),
       omega (arith, F .fits),
       rw add-one (first-monic F .below),

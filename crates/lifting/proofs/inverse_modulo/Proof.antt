@@ -15,7 +15,7 @@ inverse-modulo-spec =
     (λ c. search needs)  -- add-remainder
     (λ c κs.
     let C = c .pre in
-    (C .first, omega (arith, C .fits-first), C .fits-second, rw add-one (C .monic-first .below), C .monic-second))  -- remainder-requires
+    (C .first, C .second, omega (arith, C .fits-first), C .fits-second, rw add-one (C .monic-first .below), C .monic-second))  -- remainder-requires
     (λ c κs.
     let C = c .before .pre in
     let r = c .remainder .ensures in

@@ -2,6 +2,7 @@
 -- Assumes nothing.
 use native.Mathlib.Omega.{arith}
 use borrow.Author.Needs.{needs}
+use Rattle.algebra.specs.Numbers.{square-least}
 use Rattle.modular.specs.Widths.{square-width}
 use Rattle.modular.specs.Arrays.{reduced-square, below-modulo}
 use Rattle.lifting.specs.Lifted.{lifted-is}
@@ -17,12 +18,22 @@ lift-by-spec =
     (λ c. omega (arith, square-width (c .before .before .before .before .args .p) (omega arith)))  -- mul-n
     (λ c κs.
     let F = c .before .before .before .before .pre .1 in
-    let C = c .before .before .correction .ensures in
-    (reduced-square (F .first), below-modulo _ (C .first) (C .small-first), omega (arith, F .fits)))  -- add-multiple-requires
+    let C = c .before .before .correction .ensures in (
+      square-least _,
+      reduced-square (F .first),
+      reduced-square (C .first),
+      below-modulo _ (C .first) (C .small-first),
+      omega (arith, F .fits),
+    ))  -- add-multiple-requires
     (λ c κs.
     let F = c .before .before .before .before .before .pre .1 in
-    let C = c .before .before .before .correction .ensures in
-    (reduced-square (F .second), below-modulo _ (C .second) (C .small-second), omega (arith, F .fits)))  -- add-multiple-requires-2
+    let C = c .before .before .before .correction .ensures in (
+      square-least _,
+      reduced-square (F .second),
+      reduced-square (C .second),
+      below-modulo _ (C .second) (C .small-second),
+      omega (arith, F .fits),
+    ))  -- add-multiple-requires-2
     (λ c.
     let d = c .before .before .before .before in
     let F = d .before .before .pre .1 in

@@ -1,37 +1,29 @@
--- `modular::add_multiple` meets its contract. The loop has replaced the entries from k up to i.
+-- `modular::add_multiple` meets its contract: `add_in_place` is lent the part from k on.
 -- Assumes nothing.
-use Prim.Native.Nat.{_-_}
-use native.Mathlib.Omega.{arith}
 use borrow.Author.Needs.{needs}
-use Rattle.loops.specs.Entries.{Replaced, replaced-none, replaced-more}
-use Rattle.modular.specs.AddMultiple.{entry, multiple-added}
+use Rattle.modular.specs.Arrays.{zero-above}
+use Rattle.modular.specs.AddMultiple.{part-within, multiple-added}
 use Rattle.modular.proofs.add_multiple.Statement.{statement}
 use Rattle.modular.proofs.add_multiple.Tie as tie
 
-abbrev Inv-loop : tie.InvT-loop
-Inv-loop c k m n a b end w r₀ i₀ r i = Replaced 0 (entry n a c b k) a k r i
-
-abbrev μ-loop : tie.MeasureT-loop
-μ-loop c k m n a b end w r₀ i₀ r i = end - i
-
 pub add-multiple-spec : {M : Type 1} → statement M
-unfolding entry
 add-multiple-spec =
     tie.close
-    (tie.spec Inv-loop μ-loop
-    (λ c. search needs)  -- add-end
-    (λ c κs. omega (arith, c .pre .0 .low 0))  -- reciprocal-requires
-    (λ c. replaced-none)  -- loop-holds
-    (λ c. search needs)  -- mul-add-product
-    (λ c. search needs)  -- array-read-add-product
-    (λ c. search needs)  -- sub-add-product
-    (λ c. search needs)  -- mul-add-product-2
-    (λ c. search needs)  -- array-read-add-product-2
-    (λ c κs. (omega (arith, c .before .before .before .pre .0 .low 0), c .before .before .reciprocal .ensures))  -- add-product-requires
+    (tie.spec
     (λ c. search needs)  -- mul-r
-    (λ c. search needs)  -- array-write-r
-    (λ c. search needs)  -- add-i
-    (λ c. search needs)  -- loop-less
-    (λ c. replaced-more (c .before .before .loop .inv) (search needs) (c .add-product .ensures))  -- loop-again
-    (λ c. multiple-added _ _ _ _ _ (c .before .before .before .pre .0) (c .before .before .before .pre .1) (c .before .loop .inv)
-    (c .loop-test .left)))  -- returns
+    (λ c. search needs)  -- sub-add-in-place
+    (λ c. search needs)  -- part-r-start
+    (λ c. search needs)  -- part-r-end
+    (λ c. search needs)  -- slice-aggregate-add-in-place
+    (λ c κs.
+    let pre = c .before .before .pre in (
+      pre .0,
+      search needs,
+      search needs,
+      part-within (c .before .before .args .k) _ (pre .1) (search needs),
+      pre .2 .low,
+      zero-above (pre .2) (pre .3),
+    ))  -- add-in-place-requires
+    (λ c.
+    let pre = c .before .before .before .before .pre in
+    multiple-added _ _ _ _ _ (pre .1) (pre .3) (search needs) (c .before .add-in-place .ensures)))  -- returns

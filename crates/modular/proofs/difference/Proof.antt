@@ -11,6 +11,6 @@ pub difference-spec : {M : Type 1} → statement M
 difference-spec =
     tie.close
     (tie.spec
-    (λ c. omega (arith, c .pre .low 0))  -- sub-add-multiple
-    (λ c κs. (c .pre, below-length _ _ (search needs), search needs))  -- add-multiple-requires
-    (λ c. difference-represented _ _ _ _ (omega (arith, c .before .pre .low 0)) (c .add-multiple .ensures)))  -- returns
+    (λ c. omega (arith, c .pre .0 .low 0))  -- sub-add-multiple
+    (λ c κs. (search needs, c .pre .0, c .pre .1, below-length _ _ (search needs), search needs))  -- add-multiple-requires
+    (λ c. difference-represented _ _ _ _ (omega (arith, c .before .pre .0 .low 0)) (c .add-multiple .ensures)))  -- returns

@@ -5,7 +5,6 @@ use Prim.Native.Nat.{ℕ, _<_, _-_, _*_, _%_}
 use native.Mathlib.Omega.{arith}
 use borrow.Author.Count.{below-more}
 use borrow.Author.Needs.{needs}
-use Rattle.modular.specs.Widths.{product-width}
 use Rattle.modular.specs.Inverse.{inverse-below, inverse-none}
 use Rattle.modular.proofs.inverse.Statement.{statement}
 use Rattle.modular.proofs.inverse.Tie as tie
@@ -21,13 +20,11 @@ inverse-spec =
     tie.close
     (tie.spec Inv-loop μ-loop
     (λ c. inverse-none (c .args .c) (c .args .p))  -- loop-holds
-    (λ c. search needs)  -- cast-reduce
-    (λ c. omega (arith, product-width (c .before .before .args .c) (c .before .loop .y) (omega arith) (omega arith)))  -- mul-reduce
-    (λ c κs. search needs)  -- reduce-requires
-    (λ c. (c .before .before .loop-test .taken, sym (c .before .reduce .ensures .0) ∙ c .if1 .taken))  -- returns
+    (λ c κs. search needs)  -- times-requires
+    (λ c. (c .before .before .loop-test .taken, sym (c .before .times .ensures .0) ∙ c .if1 .taken))  -- returns
     (λ c. search needs)  -- add-y
     (λ c. search needs)  -- loop-less
-    (λ c. below-more _ _ (c .before .before .before .loop .inv) (λ e. c .if1 .left (c .before .reduce .ensures .0 ∙ e)))  -- loop-again
+    (λ c. below-more _ _ (c .before .before .before .loop .inv) (λ e. c .if1 .left (c .before .times .ensures .0 ∙ e)))  -- loop-again
     (λ c.
     let pre = c .before .before .pre in
     let (y, l, e) = inverse-below (pre .0) (c .before .before .args .c) (pre .1) (pre .2) in

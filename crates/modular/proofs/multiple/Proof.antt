@@ -1,8 +1,9 @@
 -- `modular::multiple` meets its contract.
 -- Assumes nothing.
+use native.Mathlib.Omega.{arith}
 use borrow.Author.Needs.{needs}
 use Rattle.modular.specs.Coefficients.{zeros}
-use Rattle.modular.specs.Multiples.{multiple-represented}
+use Rattle.modular.specs.Multiples.{multiple-by-one, multiple-represented}
 use Rattle.modular.proofs.multiple.Statement.{statement}
 use Rattle.modular.proofs.multiple.Tie as tie
 
@@ -10,5 +11,8 @@ pub multiple-spec : {M : Type 1} → statement M
 multiple-spec =
     tie.close
     (tie.spec
-    (λ c κs. ((zeros _ (c .pre .0)) .reduced, c .pre .2, search needs))  -- add-multiple-requires
-    (λ c. multiple-represented _ _ _ _ (c .before .pre .0) (c .add-multiple .ensures)))  -- returns
+    (λ c. multiple-by-one (c .if1 .taken) (c .before .pre .2))  -- returns
+    (λ c κs.
+    let pre = c .before .pre in
+    (pre .0, (zeros _ (omega (arith, pre .2 .low 0))) .reduced, pre .2, pre .3, search needs))  -- add-multiple-requires
+    (λ c. multiple-represented _ _ _ _ (omega (arith, c .before .before .pre .2 .low 0)) (c .add-multiple .ensures)))  -- returns-2

@@ -1,5 +1,6 @@
 -- `modular::sum` meets its contract.
 -- Assumes nothing.
+use native.Mathlib.Omega.{arith}
 use borrow.Author.Needs.{needs}
 use Rattle.modular.specs.Coefficients.{below-length}
 use Rattle.modular.specs.Multiples.{sum-represented}
@@ -10,5 +11,5 @@ pub sum-spec : {M : Type 1} → statement M
 sum-spec =
     tie.close
     (tie.spec
-    (λ c κs. (c .pre, below-length _ _ (search needs), search needs))  -- add-multiple-requires
+    (λ c κs. (omega (arith, c .pre .0 .low 0), c .pre .0, c .pre .1, below-length _ _ (search needs), search needs))  -- add-multiple-requires
     (λ c. sum-represented _ _ _ _ (c .add-multiple .ensures)))  -- returns

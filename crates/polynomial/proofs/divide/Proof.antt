@@ -29,7 +29,7 @@ divide-spec =
     let s = c .before .before .size .ensures in
     let t = c .before .size2 .ensures in
     rw (c .square .ensures)
-    (e .0 .first, s .limit, omega (arith, t .limit, monic-size t (e .1)), below-size _ s, monic-array _ t (e .1)))  -- divide-requires
+    (e .0 .first, e .0 .second, s .limit, omega (arith, t .limit, monic-size t (e .1)), below-size _ s, monic-array _ t (e .1)))  -- divide-requires
     (λ c κs. search needs)  -- accept-division-requires
     (λ c κs. search needs)  -- refuse-division-requires
     (λ c.

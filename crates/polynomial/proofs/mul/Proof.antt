@@ -7,7 +7,7 @@ use Rattle.specification.specs.Records.{productOf}
 use Rattle.modular.specs.Coefficients.{below-size}
 use Rattle.polynomial.specs.RecordLaws.{length-trim}
 use Rattle.polynomial.specs.Accepted.{product-accepted}
-use Rattle.polynomial.specs.Results.{positive, result-refused, product-is}
+use Rattle.polynomial.specs.Results.{result-refused, product-is}
 use Rattle.polynomial.proofs.mul.Statement.{statement}
 use Rattle.polynomial.proofs.mul.Tie as tie
 
@@ -26,7 +26,7 @@ mul-spec =
     let s = c .before .before .size .ensures in
     let t = c .before .size2 .ensures in
     rw (c .square .ensures)
-    (positive _ _ (e .0), s .limit, omega (arith, e .1, length-trim s, length-trim t), below-size _ s, below-size _ t))  -- product-requires
+    (e .0 .first, e .0 .second, s .limit, omega (arith, e .1, length-trim s, length-trim t), below-size _ s, below-size _ t))  -- product-requires
     (λ c κs. search needs)  -- accept-requires
     (λ c κs. search needs)  -- refuse-requires
     (λ c.

@@ -3,7 +3,9 @@
 use native.Mathlib.Numerals.{add-one}
 use native.Mathlib.Omega.{arith}
 use borrow.Author.Needs.{needs}
-use Rattle.quotients.specs.Shift.{moved-reduced, shift-low, shift-high}
+use Rattle.modular.specs.Arrays.{zero-above}
+use Rattle.modular.specs.AddMultiple.{multiple-added-to}
+use Rattle.quotients.specs.Shift.{moved-reduced, shifted}
 use Rattle.quotients.proofs.shift.Statement.{statement}
 use Rattle.quotients.proofs.shift.Tie as tie
 
@@ -11,21 +13,26 @@ pub shift-spec : {M : Type 1} → statement M
 shift-spec =
     tie.close
     (tie.spec
-    (λ c κs. search needs)  -- times-x-requires
-    (λ c. search needs)  -- mul-if1
-    (λ c. search needs)  -- array-read-if1
-    (λ c. shift-low (c .before .before .pre .1) (c .before .before .pre .2) (c .before .times-x .ensures) (c .if1 .taken))  -- returns
+    (λ c κs. let pre = c .before .before .before .pre in (search needs, zero-above (pre .1) (pre .3)))  -- move-up-requires
     (λ c. search needs)  -- mul-c
-    (λ c. search needs)  -- array-read-c
-    (λ c. omega (
-      arith,
-      moved-reduced (c .before .before .pre .1) (c .before .before .pre .2) (c .before .times-x .ensures) .low
-          (c .before .before .args .d),
-    ))  -- sub-c
-    (λ c. search needs)  -- add-add-multiple
-    (λ c κs.
-    let pre = c .before .before .pre in
-    (moved-reduced (pre .1) (pre .2) (c .before .times-x .ensures), rw add-one (pre .3 .below), search needs))  -- add-multiple-requires
+    (λ c. search needs)  -- slice-read-c
     (λ c.
-    let pre = c .before .before .before .pre in
-    shift-high (pre .1) (pre .2) (c .before .before .times-x .ensures) (pre .3) (c .add-multiple .ensures)))  -- returns-2
+    let start = c .before .before .before .before .before .before .before in
+    omega (arith, moved-reduced (start .pre .1) (c .before .before .before .move-up .ensures) .low (start .args .d)))  -- sub-c
+    (λ c. search needs)  -- add-add-in-place
+    (λ c κs.
+    let pre = c .before .before .before .before .before .before .before .before .pre in
+    let moved = moved-reduced (pre .1) (c .before .before .before .before .move-up .ensures) in (
+      search needs,
+      omega (arith, pre .0, moved .len),
+      omega (arith, moved .len, pre .2 .len),
+      moved .low,
+      pre .2 .low,
+      zero-above (pre .2) (rw add-one (pre .4 .below)),
+    ))  -- add-in-place-requires
+    (λ c. search needs)  -- same-length
+    (λ c.
+    let pre = c .before .before .before .before .before .before .before .before .before .before .before .pre in
+    let up = c .before .before .before .before .before .before .before .move-up .ensures in
+    let added = multiple-added-to _ _ _ _ (moved-reduced (pre .1) up) (c .before .before .add-in-place .ensures) in
+    shifted (pre .1) up (pre .3) (pre .4) added))  -- returns

@@ -25,7 +25,7 @@ grow-spec =
     (λ c κs.
     let w = c .before .before .loop .inv .1 in
     let h = c .before .before .before .pre in
-    (omega (arith, h .0), omega (arith, w .array .fits), omega arith, below-monic (w .array), below-monic (h .2)))  -- product-requires
+    (w .array .reduced, h .2 .reduced, omega (arith, w .array .fits), omega arith, below-monic (w .array), below-monic (h .2)))  -- product-requires
     (λ c. search needs)  -- add-degree
     (λ c. search needs)  -- add-i
     (λ c. search needs)  -- loop-less

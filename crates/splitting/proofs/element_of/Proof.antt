@@ -9,6 +9,6 @@ pub element-of-spec : {M : Type 1} → statement M
 element-of-spec =
     tie.close
     (tie.spec
-    (λ c. element-known (c .before .before .pre .4) (c .if1 .taken))  -- returns
+    (λ c. element-known (c .before .before .pre .5) (c .if1 .taken))  -- returns
     (λ c κs. search needs)  -- splitting-element-requires
     (λ c. search needs))  -- returns-2

@@ -4,7 +4,7 @@ use Prim.Native.Nat.{_-_, _≤_}
 use borrow.Author.Needs.{needs}
 use Rattle.algebra.specs.Monomials.{x^}
 use Rattle.frobenius.specs.FrobeniusPowers.{_^_}
-use Rattle.modular.specs.Coefficients.{below-unit}
+use Rattle.modular.specs.Coefficients.{unit, below-unit}
 use Rattle.quotients.specs.Remainder.{Remainder}
 use Rattle.quotients.specs.Power.{power-none, power-more}
 use Rattle.splitting.specs.Images.{PowerImages, images-none, images-more, images-done}
@@ -24,7 +24,9 @@ images-spec =
     (λ c. search needs)  -- array-write-unit
     (λ c. (images-none, power-none _ _ _ (c .pre .0) (c .pre .1), search needs))  -- loop-holds
     (λ c. search needs)  -- sub-add-multiple
-    (λ c κs. (c .before .loop .inv .1 .reduced, below-unit _ 32, search needs))  -- add-multiple-requires
+    (λ c κs.
+    let one = unit _ (c .before .before .pre .0) in
+    (search needs, c .before .loop .inv .1 .reduced, one .reduced, below-unit _ 32, search needs))  -- add-multiple-requires
     (λ c. search needs)  -- mul-r
     (λ c. search needs)  -- array-set-from-r
     (λ c κs. search needs)  -- times-power-of-x-requires

@@ -14,10 +14,13 @@ divided-by-exponent-spec =
     (λ c κs. omega (arith, is-prime (c .pre .0) .large))  -- reduce-requires
     (λ c. omega (arith, fits-byte (c .before .pre .0)))  -- cast-inverse
     (λ c κs. search needs)  -- inverse-requires
+    (λ c. search needs)  -- cast-reduce
+    (λ c κs. omega (arith, is-prime (c .before .before .pre .0) .large))  -- reduce-requires-2
     (λ c κs.
-    let pre = c .before .before .pre in
-    (omega (arith, is-prime (pre .0) .large), pre .2, pre .3))  -- multiple-requires
-    (λ c.
     let pre = c .before .before .before .pre in
-    divided-by _ _ (is-prime (pre .0) .large) (pre .1) _ (rw (c .before .before .reduce .ensures .0) at (c .before .inverse .ensures .rule (pre .0))) _
+    (search needs, pre .2, pre .4, pre .3))  -- multiple-requires
+    (λ c.
+    let pre = c .before .before .before .before .pre in
+    let rule = c .before .before .inverse .ensures .rule (pre .0) in
+    divided-by _ _ (is-prime (pre .0) .large) (pre .1) _ (rw (c .before .before .before .reduce .ensures .0) at rule) (c .before .reduce2 .ensures .0) _
     (c .multiple .ensures)))  -- returns

@@ -1,7 +1,6 @@
 -- `verdicts::h_bar` meets its contract.
 -- Assumes nothing.
 use native.Mathlib.Omega.{arith}
-use borrow.Author.Needs.{needs}
 use Rattle.algebra.specs.Numbers.{square-large}
 use Rattle.algebra.specs.TakenPrimes.{is-prime, square-small}
 use Rattle.verdicts.specs.HBar.{h-bar}
@@ -13,8 +12,8 @@ h-bar-spec =
     tie.close
     (tie.spec
     (λ c. omega (arith, square-small _ (c .pre .0)))  -- mul-n
-    (λ c κs. (square-large _ (is-prime (c .pre .0) .large), c .pre .1, c .pre .4))  -- power-requires
-    (λ c κs. search needs)  -- difference-requires
+    (λ c κs. (square-large _ (is-prime (c .pre .0) .large), c .pre .1, c .pre .4, c .pre .2 .reduced))  -- power-requires
+    (λ c κs. (c .before .pre .3 .reduced, c .power .ensures .reduced))  -- difference-requires
     (λ c κs. omega (arith, is-prime (c .before .before .pre .0) .large))  -- over-requires
     (λ c.
     let pre = c .before .before .before .pre in

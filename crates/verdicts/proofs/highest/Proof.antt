@@ -25,6 +25,7 @@ highest-spec =
     (λ c κs.
     let pre = c .before .before .pre in (
       c .before .loop .inv .0 .reduced,
+      pre .6,
       omega (arith, rest-room _ (c .before .loop .k) _ (pre .3)),
       omega (arith, base-room _ _ (pre .2) (pre .3)),
       cofactor-below _ _ _ (pre .1) (pre .4) (c .before .loop .inv .0) (omega (arith, c .before .loop .inv .1)),

@@ -2,7 +2,9 @@
 -- Assumes nothing.
 use native.Mathlib.Omega.{arith}
 use borrow.Author.Needs.{needs}
+use Rattle.algebra.specs.Numbers.{square-least}
 use Rattle.algebra.specs.TakenPrimes.{is-prime, square-small}
+use Rattle.modular.specs.Arrays.{reduced-square, below-modulo}
 use Rattle.verdicts.specs.Lifts.{lift-represented}
 use Rattle.verdicts.proofs.lifted.Statement.{statement}
 use Rattle.verdicts.proofs.lifted.Tie as tie
@@ -12,5 +14,5 @@ lifted-spec =
     tie.close
     (tie.spec
     (λ c. omega (arith, square-small _ (c .pre .0)))  -- mul-add-multiple
-    (λ c κs. search needs)  -- add-multiple-requires
+    (λ c κs. let pre = c .pre in (square-least _, pre .2, reduced-square (pre .3), below-modulo _ (pre .3) (pre .4), search needs))  -- add-multiple-requires
     (λ c. lift-represented _ (is-prime (c .before .pre .0) .large) _ _ (c .add-multiple .ensures)))  -- returns

@@ -31,7 +31,8 @@ power-spec =
     (λ c. omega (arith, next-room _ (c .loop-test .taken) (c .before .before .pre .1)))  -- add-product-2
     (λ c κs.
     let l = next-room _ (c .loop-test .taken) (c .before .before .pre .1) in (
-      omega (arith, c .before .before .pre .0),
+      c .before .loop .inv .0 .reduced,
+      c .before .before .pre .3,
       omega arith,
       omega arith,
       power-below _ _ _ _ (c .before .before .pre .2) (c .before .loop .inv .0),

@@ -3,7 +3,6 @@
 use mathlib.Core.Path.{refl}
 use native.Mathlib.Omega.{arith}
 use borrow.Author.Needs.{needs}
-use Rattle.modular.specs.Arrays.{below-modulo}
 use Rattle.algebra.specs.TakenPrimes.{is-prime}
 use Rattle.verdicts.specs.Scaled.{scaled-below}
 use Rattle.verdicts.specs.Lifts.{lift-by}
@@ -21,7 +20,8 @@ root-spec =
       pre .0,
       omega (arith, pre .2),
       pre .3,
-      below-modulo _ (u .reduced) (rw (u .is) (scaled-below _ _ _ (is-prime (pre .0) .large) (pre .4))),
+      u .reduced,
+      rw (u .is) (scaled-below _ _ _ (is-prime (pre .0) .large) (pre .4)),
     ))  -- lifted-requires
     (λ c.
     lift-by _ (is-prime (c .before .before .pre .0) .large) _ _ _ _ refl (c .before .divided-by-exponent .ensures .is) (c .lifted .ensures)))  -- returns

@@ -17,7 +17,7 @@ split-repeated-spec =
     (tie.spec
     (λ c κs.
     let (given, repeated, h, nonzero) = c .pre in
-    (h .reduced, base-is-monic given, given .over .positive, given .room, h-below given _ (h .is), nonzero))  -- highest-requires
+    (h .reduced, base-is-monic given, given .over .positive, given .room, h-below given _ (h .is), nonzero, given .base-held .reduced))  -- highest-requires
     (λ c. search needs)  -- mul-one-factor
     (λ c κs. search needs)  -- one-factor-requires
     (λ c.
@@ -34,6 +34,7 @@ split-repeated-spec =
       degree-room given,
       given .g-held .reduced,
       root-below given repeated _ h nonzero (c .before .before .before .before .highest .ensures) (c .before .before .if1 .left) test,
+      c .before .before .before .before .highest .ensures .cofactor .reduced,
     ))  -- root-requires
     (λ c κs. search needs)  -- one-factor-requires-2
     (λ c.
@@ -53,6 +54,7 @@ split-repeated-spec =
       g-is-monic given,
       top .cofactor .reduced,
       last-below given repeated _ h nonzero top,
+      given .g-held .reduced,
     ))  -- last-factor-requires
     (λ c.
     let (given, repeated, h, nonzero) = c .before .before .before .before .before .before .pre in
