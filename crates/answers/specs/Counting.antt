@@ -19,7 +19,7 @@ use Rattle.theorems.specs.PartShapes.{records}
 use Rattle.verdicts.specs.declared.Part.{Part}
 use Rattle.verdicts.specs.Views.{asFactor, asPart}
 use Rattle.pieces.specs.Shifting.{all-read}
-use Rattle.writing.specs.Coefficients.{degree-listed}
+use Rattle.commands.specs.HeldArrays.{degree-listed}
 use Rattle.answers.specs.Layout.{isSplit, split-factors, other-factors, TotalsOf}
 
 -- ---- what a part adds
@@ -134,7 +134,7 @@ pub counted-done : (xs : List Part) (i n : ℕ) {s z r : ℕ} → i ≤ n → n 
     → TotalsOf (map asPart (take n xs)) (record { factors = s; different = z; free = r })
 counted-done xs i n {s} {z} {r} l u h w =
     let all = subst (λ (k : ℕ). Counted (take k xs) s z r) (let e : i ≡ n = omega arith in e) w in
-    (all .factors ∙ sym (total-sum (take n xs)), all .different ∙ sym (h .apart), all .free ∙ sym (free-sum (take n xs)))
+    rw (all .factors ∙ sym (total-sum (take n xs)), all .different ∙ sym (h .apart), all .free ∙ sym (free-sum (take n xs))) refl
 
 -- a turn at the place i of n; d is what is read past the array's end
 module _ (d : Part) (xs : List Part) (n : ℕ) (room : n ≤ length xs) (i : ℕ) (l : i < n) where

@@ -1,5 +1,5 @@
 -- The layout of an answer over the code's arrays: the bytes of a factor, of a part and of an answer, as they are written one after the other.
--- Proves that they are those of the definitions; `TotalsOf` says that the three totals are. Assumes nothing.
+-- Proves that they are those of the definitions; `TotalsOf` says that the struct of the totals has those of some parts. Assumes nothing.
 use mathlib.Core.Path.{_≡_, refl, sym, _∙_, ap, ap₂, subst}
 use mathlib.Core.Bool.{Bool, true, false}
 use mathlib.Core.List.{List, [], _∷_, _++_, map, flatMap, append-nil}
@@ -10,35 +10,45 @@ use lib.Seq.{take-suc}
 use lib.Dec.{T}
 use Rattle.specification.specs.Polynomials.{Poly}
 use Rattle.specification.specs.Parts as parts
-use Rattle.specification.specs.Totals.{listOf, total, different, freeDigits}
-use Rattle.specification.specs.Sheets.{coefficientBytes}
-use Rattle.specification.specs.Answers.{verdictNumber, factorBytes, partBytes, totalBytes, endBytes}
+use Rattle.specification.specs.Totals as totals
+use Rattle.specification.specs.Totals.{totalsOf}
+use Rattle.specification.specs.Sheets.{Sheet}
+use Rattle.specification.specs.Answers.{verdictNumber}
 use Rattle.factorisation.specs.Members.{flatMap-append}
-use Rattle.theorems.specs.AnswerLayout.{answerBytes}
+use Rattle.theorems.specs.CoefficientBytes.{coefficientBytes}
+use Rattle.theorems.specs.SheetLayout.{headBytes}
+use Rattle.theorems.specs.AnswerLayout.{
+  factorBytes,
+  partBytes,
+  endBytes,
+  answerBytes,
+  factorBytes-is,
+  partBytes-is,
+  answerBytes-is,
+}
 use Rattle.verdicts.specs.declared.Verdict.{Verdict}
 use Rattle.verdicts.specs.declared.Verdict.the-variants.{Basic, Solid, Power, Split}
 use Rattle.verdicts.specs.declared.Factor.{Factor}
 use Rattle.verdicts.specs.declared.Part.{Part}
 use Rattle.verdicts.specs.Views.{asVerdict, asFactor, asFactors, asPart}
 use Rattle.writing.specs.Turns.{Turns}
-use Rattle.writing.specs.Coefficients.{degree-listed, lower-listed}
+use Rattle.commands.specs.HeldArrays.{degree-listed, lower-listed}
 use Rattle.answers.specs.declared.Totals.{Totals}
 
 -- "0x12 followed by its 0x03 commands"
-pub factor-is : (q : Factor) → length (q .coefs) ≡ 33 → q .degree ≤ 32
-    → (0x12 ∷ q .degree ∷ q .times ∷ []) ++ coefficientBytes 0 (take (q .degree) (q .coefs)) ≡ factorBytes (asFactor q)
-unfolding factorBytes
-factor-is q long l =
-    sym (ap₂ (λ (e : ℕ) (f : Poly). 0x12 ∷ e ∷ q .times ∷ coefficientBytes 0 f) (degree-listed (q .degree) (q .coefs) (omega arith))
-    (lower-listed (q .degree) (q .coefs) (omega arith)))
+pub factor-is : (p : ℕ) (q : Factor) → length (q .coefs) ≡ 33 → q .degree ≤ 32
+    → (0x12 ∷ q .degree ∷ q .times ∷ []) ++ coefficientBytes p 0 (take (q .degree) (q .coefs)) ≡ factorBytes p (asFactor q)
+factor-is p q long l =
+    sym (factorBytes-is p (asFactor q) ∙ ap₂ (λ (e : ℕ) (f : Poly). 0x12 ∷ e ∷ q .times ∷ coefficientBytes p 0 f)
+    (degree-listed (q .degree) (q .coefs) (omega arith)) (lower-listed (q .degree) (q .coefs) (omega arith)))
 
 -- 0x11: "degree of G, power, verdict", and the part's factors
-pub part-is : (x : Part) → length (x .base) ≡ 33 → x .degree ≤ 32 → {v : ℕ} → v ≡ verdictNumber (asVerdict (x .verdict))
-    → (0x11 ∷ x .degree ∷ x .exponent ∷ v ∷ []) ++ flatMap factorBytes (asFactors (x .verdict) (x .first) (x .second)) ≡ partBytes (asPart x)
-unfolding partBytes
-part-is x long l e =
-    ap₂ (λ (d v : ℕ). 0x11 ∷ d ∷ x .exponent ∷ v ∷ flatMap factorBytes (asFactors (x .verdict) (x .first) (x .second)))
+pub part-is : (s : Sheet) (x : Part) → length (x .base) ≡ 33 → x .degree ≤ 32 → {v : ℕ} → v ≡ verdictNumber (asVerdict (x .verdict))
+    → (0x11 ∷ x .degree ∷ x .exponent ∷ v ∷ []) ++ flatMap (factorBytes (s .prime)) (asFactors (x .verdict) (x .first) (x .second)) ≡ partBytes s (asPart x)
+part-is s x long l e =
+    ap₂ (λ (d v : ℕ). 0x11 ∷ d ∷ x .exponent ∷ v ∷ flatMap (factorBytes (s .prime)) (asFactors (x .verdict) (x .first) (x .second)))
     (sym (degree-listed (x .degree) (x .base) (omega arith))) e
+    ∙ sym (partBytes-is s (asPart x))
 
 -- ---- one factor or two
 
@@ -108,29 +118,28 @@ flatMap-map g h [] = refl
 flatMap-map g h (a ∷ l) = ap (λ r. g (h a) ++ r) (flatMap-map g h l)
 
 -- the bytes of the code's parts
-abbrev pub partsBytes : List Part → List ℕ
-partsBytes xs = flatMap (λ (x : Part). partBytes (asPart x)) xs
+abbrev pub partsBytes : Sheet → List Part → List ℕ
+partsBytes s xs = flatMap (λ (x : Part). partBytes s (asPart x)) xs
 
 -- d is what is read past an array's end
-pub part-turns : (d : Part) (xs : List Part) (n : ℕ) → n ≤ length xs
-    → Turns (λ i. partsBytes (take i xs)) (λ i. partBytes (asPart (getD xs i d))) n
-part-turns d xs n l = flat-turns (λ (x : Part). partBytes (asPart x)) d xs n l
+pub part-turns : (s : Sheet) (d : Part) (xs : List Part) (n : ℕ) → n ≤ length xs
+    → Turns (λ i. partsBytes s (take i xs)) (λ i. partBytes s (asPart (getD xs i d))) n
+part-turns s d xs n l = flat-turns (λ (x : Part). partBytes s (asPart x)) d xs n l
+
+-- ---- the end
+
+-- the struct of the three totals
+abbrev pub asTotals : Totals → totals.Totals
+asTotals t = record { factors = t .factors; different = t .different; free = t .free }
+
+-- "Each total is counted from the list"
+abbrev pub TotalsOf : List parts.Part → Totals → Type 0
+TotalsOf Ps t = asTotals t ≡ totalsOf Ps
 
 -- ---- the whole
 
--- "factors with repeats; different factors; free digits"
-abbrev pub TotalsOf : List parts.Part → Totals → Type 0
-TotalsOf Ps t = (t .factors ≡ total Ps) × (t .different ≡ different (listOf Ps)) × (t .free ≡ freeDigits Ps)
-
--- "then 0x13, 0x0F"
-abbrev pub endOf : Totals → List ℕ
-endOf t = 0x13 ∷ t .factors ∷ t .different ∷ t .free ∷ 0x0F ∷ []
-
-end-is : (Ps : List parts.Part) {t : Totals} → TotalsOf Ps t → endOf t ≡ endBytes Ps
-unfolding endBytes totalBytes
-end-is Ps (e, f, g) = rw (e, f, g)
-
-pub answer-is : (p d : ℕ) (xs : List Part) {t : Totals} → TotalsOf (map asPart xs) t
-    → (0x01 ∷ p ∷ 0x02 ∷ d ∷ []) ++ partsBytes xs ++ endOf t ≡ answerBytes p d (map asPart xs)
-answer-is p d xs e =
-    ap₂ (λ (l m : List ℕ). 0x01 ∷ p ∷ 0x02 ∷ d ∷ (l ++ m)) (sym (flatMap-map partBytes asPart xs)) (end-is (map asPart xs) e)
+pub answer-is : (s : Sheet) (xs : List Part)
+    → headBytes s ++ (partsBytes s xs ++ endBytes s (totalsOf (map asPart xs))) ≡ answerBytes s (map asPart xs)
+answer-is s xs =
+    ap (λ (l : List ℕ). headBytes s ++ (l ++ endBytes s (totalsOf (map asPart xs)))) (sym (flatMap-map (partBytes s) asPart xs))
+    ∙ sym (answerBytes-is s (map asPart xs))

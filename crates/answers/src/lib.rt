@@ -5,15 +5,17 @@ ghost use mathlib.Core.List.{flatMap};
 ghost use Prim.Native.Nat.{_-_, _*_, _≤_, _<_};
 ghost use lib.ListN.{length};
 ghost use Rattle.specification.specs.Limits.{answerArea};
-ghost use Rattle.specification.specs.Answers.{verdictNumber, factorBytes, partBytes};
+ghost use Rattle.specification.specs.Answers.{verdictNumber};
 ghost use Rattle.factorisation.specs.Members.{All};
-ghost use Rattle.theorems.specs.AnswerLayout.{answerBytes};
+ghost use Rattle.theorems.specs.AnswerLayout.{factorBytes, partBytes, endBytes, answerBytes};
+ghost use Rattle.commands.specs.Views.{asSheet};
 ghost use Rattle.verdicts.specs.Views.{asVerdict, asFactor, asFactors, asPart};
 ghost use Rattle.pieces.specs.Views.{held};
 ghost use Rattle.writing.specs.Area.{Wrote, Room};
-ghost use Rattle.answers.specs.Layout.{isSplit, partsBytes, TotalsOf, endOf};
+ghost use Rattle.answers.specs.Layout.{isSplit, partsBytes, asTotals, TotalsOf};
 ghost use Rattle.answers.specs.Counting.{partFactors, Adds, Countable};
 ghost use Rattle.answers.specs.Writable.{DegreesFit, heldParts, Writable};
+use commands::Sheet;
 use pieces::Parts;
 use verdicts::Factor;
 use verdicts::Part;
@@ -22,6 +24,7 @@ use writing::put;
 use writing::put_four;
 use writing::put_three;
 use writing::write_coefficients;
+use writing::write_head;
 
 // "factors with repeats; different factors; free digits".
 pub struct Totals {
@@ -30,25 +33,25 @@ pub struct Totals {
     pub free: usize,
 }
 
-// 0x12: degree, how many times, and its 0x03 commands.
-fn write_factor(out: &mut [u8], at: usize, q: Factor) -> usize
-    requires { ⌜ (q .degree ≤ 32) × Room (now out) at (factorBytes (asFactor q)) ⌝ }
-    ensures { λ r. ⌜ Wrote (now (out .entry)) (now (out .exit)) at (factorBytes (asFactor q)) r ⌝ }
+// 0x12: degree, how many times, and the commands of its coefficients.
+fn write_factor(out: &mut [u8], at: usize, p: u8, q: Factor) -> usize
+    requires { ⌜ (q .degree ≤ 32) × Room (now out) at (factorBytes p (asFactor q)) ⌝ }
+    ensures { λ r. ⌜ Wrote (now (out .entry)) (now (out .exit)) at (factorBytes p (asFactor q)) r ⌝ }
 {
     let coefs = q.coefs;
     let next = put_three(out, at, 0x12, q.degree as u8, q.times as u8);
-    write_coefficients(out, next, coefs, q.degree)
+    write_coefficients(out, next, p, coefs, q.degree)
 }
 
 // A part's one or two factors.
-fn write_factors(out: &mut [u8], at: usize, v: Verdict, a: Factor, b: Factor) -> usize
-    requires { ⌜ (a .degree ≤ 32) × (b .degree ≤ 32) × Room (now out) at (flatMap factorBytes (asFactors v a b)) ⌝ }
-    ensures { λ r. ⌜ Wrote (now (out .entry)) (now (out .exit)) at (flatMap factorBytes (asFactors v a b)) r ⌝ }
+fn write_factors(out: &mut [u8], at: usize, p: u8, v: Verdict, a: Factor, b: Factor) -> usize
+    requires { ⌜ (a .degree ≤ 32) × (b .degree ≤ 32) × Room (now out) at (flatMap (factorBytes p) (asFactors v a b)) ⌝ }
+    ensures { λ r. ⌜ Wrote (now (out .entry)) (now (out .exit)) at (flatMap (factorBytes p) (asFactors v a b)) r ⌝ }
 {
     let split = is_split(v);
-    let next = write_factor(out, at, a);
+    let next = write_factor(out, at, p, a);
     if split {
-        write_factor(out, next, b)
+        write_factor(out, next, p, b)
     } else {
         next
     }
@@ -79,22 +82,22 @@ fn verdict_number(v: Verdict) -> u8
 }
 
 // 0x11: degree of G, power, verdict, and the part's factors.
-fn write_part(out: &mut [u8], at: usize, part: Part) -> usize
-    requires { ⌜ DegreesFit part × Room (now out) at (partBytes (asPart part)) ⌝ }
-    ensures { λ r. ⌜ Wrote (now (out .entry)) (now (out .exit)) at (partBytes (asPart part)) r ⌝ }
+fn write_part(out: &mut [u8], at: usize, s: Sheet, part: Part) -> usize
+    requires { ⌜ DegreesFit part × Room (now out) at (partBytes (asSheet s) (asPart part)) ⌝ }
+    ensures { λ r. ⌜ Wrote (now (out .entry)) (now (out .exit)) at (partBytes (asSheet s) (asPart part)) r ⌝ }
 {
     let verdict = part.verdict;
     let first = part.first;
     let second = part.second;
     let v = verdict_number(verdict);
     let next = put_four(out, at, 0x11, part.degree as u8, part.exponent as u8, v);
-    write_factors(out, next, verdict, first, second)
+    write_factors(out, next, s.prime, verdict, first, second)
 }
 
 // The parts in order.
-fn write_parts(out: &mut [u8], at: usize, parts: Parts) -> usize
-    requires { ⌜ (parts .count ≤ 32) × All DegreesFit (held parts) × Room (now out) at (partsBytes (held parts)) ⌝ }
-    ensures { λ r. ⌜ Wrote (now (out .entry)) (now (out .exit)) at (partsBytes (held parts)) r ⌝ }
+fn write_parts(out: &mut [u8], at: usize, s: Sheet, parts: Parts) -> usize
+    requires { ⌜ (parts .count ≤ 32) × All DegreesFit (held parts) × Room (now out) at (partsBytes (asSheet s) (held parts)) ⌝ }
+    ensures { λ r. ⌜ Wrote (now (out .entry)) (now (out .exit)) at (partsBytes (asSheet s) (held parts)) r ⌝ }
 {
     let items = parts.parts;
     let count = parts.count;
@@ -102,7 +105,7 @@ fn write_parts(out: &mut [u8], at: usize, parts: Parts) -> usize
     let mut i: usize = 0;
     while i < count {
         let part = items[i];
-        let next = write_part(out, after, part);
+        let next = write_part(out, after, s, part);
         after = next;
         i += 1;
     }
@@ -162,10 +165,10 @@ pub fn count_totals(parts: Parts) -> Totals
     }
 }
 
-// All that follows the parts: 0x13 with the totals, and the end.
-fn write_end(out: &mut [u8], at: usize, t: Totals) -> usize
-    requires { ⌜ Room (now out) at (endOf t) ⌝ }
-    ensures { λ r. ⌜ Wrote (now (out .entry)) (now (out .exit)) at (endOf t) r ⌝ }
+// All that follows the parts, whose totals these are: 0x13 and 0x0F.
+fn write_end(out: &mut [u8], at: usize, s: Sheet, t: Totals) -> usize
+    requires { ⌜ Room (now out) at (endBytes (asSheet s) (asTotals t)) ⌝ }
+    ensures { λ r. ⌜ Wrote (now (out .entry)) (now (out .exit)) at (endBytes (asSheet s) (asTotals t)) r ⌝ }
 {
     let next = put_four(
         out,
@@ -178,13 +181,13 @@ fn write_end(out: &mut [u8], at: usize, t: Totals) -> usize
     put(out, next, 0x0F)
 }
 
-// The answer to a sheet of prime p and degree d whose parts these are, from place 0 on.
-pub fn write_answer(out: &mut [u8], p: u8, d: usize, parts: Parts) -> usize
-    requires { ⌜ Writable p d parts × (answerArea ≤ length (now out)) ⌝ }
-    ensures { λ r. ⌜ Wrote (now (out .entry)) (now (out .exit)) 0 (answerBytes p d (heldParts parts)) r ⌝ }
+// The answer to a sheet whose parts these are, from place 0 on.
+pub fn write_answer(out: &mut [u8], s: Sheet, parts: Parts) -> usize
+    requires { ⌜ Writable s parts × (answerArea ≤ length (now out)) ⌝ }
+    ensures { λ r. ⌜ Wrote (now (out .entry)) (now (out .exit)) 0 (answerBytes (asSheet s) (heldParts parts)) r ⌝ }
 {
     let t = count_totals(parts);
-    let first = put_four(out, 0, 0x01, p, 0x02, d as u8);
-    let last = write_parts(out, first, parts);
-    write_end(out, last, t)
+    let first = write_head(out, 0, s);
+    let last = write_parts(out, first, s, parts);
+    write_end(out, last, s, t)
 }

@@ -12,7 +12,7 @@ use borrow.Author.Tests.{lt-ltb, le-ltb}
 use Rattle.specification.specs.Text.{digit, lastDigits, decimal}
 use Rattle.algebra.specs.Numbers.{lt-or-le}
 use Rattle.factorisation.specs.Members.{All, all-cons, all-append}
-use Rattle.theorems.specs.AnswerSize.{Byte}
+use Rattle.theorems.specs.CommandBytes.{Byte}
 
 last : (k n : ℕ) → n < 10 → lastDigits (suc k) n ≡ digit n ∷ []
 unfolding lastDigits

@@ -7,10 +7,6 @@ use native.Mathlib.Numerals.{add-one}
 use native.Mathlib.Omega.{arith}
 use lib.ListN.{length, getD, take}
 use lib.Seq.{take-suc}
-use Rattle.specification.specs.Polynomials.{Poly, degree}
-use Rattle.specification.specs.Parts.{partsOf}
-use Rattle.specification.specs.Totals.{listOf, total, different, freeDigits}
-use Rattle.specification.specs.Sheets.{sheetOf}
 use Rattle.specification.specs.Text.{
   ascii,
   item,
@@ -27,10 +23,13 @@ use Rattle.verdicts.specs.declared.Factor.{Factor}
 use Rattle.verdicts.specs.declared.Part.{Part}
 use Rattle.verdicts.specs.Views.{asVerdict, asFactor, asFactors, asPart}
 use Rattle.pieces.specs.declared.Parts.{Parts}
+use Rattle.theorems.specs.AnswerLayout.{sheetParts}
+use Rattle.commands.specs.declared.Sheet.{Sheet}
+use Rattle.commands.specs.Views.{asSheet}
 use Rattle.writing.specs.Turns.{Turns}
-use Rattle.writing.specs.Coefficients.{degree-listed}
+use Rattle.commands.specs.HeldArrays.{degree-listed}
 use Rattle.answers.specs.declared.Totals.{Totals}
-use Rattle.answers.specs.Layout.{flat-turns, flatMap-map, TotalsOf}
+use Rattle.answers.specs.Layout.{flat-turns, flatMap-map, asTotals, TotalsOf}
 use Rattle.answers.specs.Writable.{heldParts}
 
 -- ---- words
@@ -71,20 +70,18 @@ part-turns d xs n l = flat-turns (λ (x : Part). partText (asPart x)) d xs n l
 
 -- "The last line holds the three totals"
 pub totals-are : (t : Totals)
-    → item "total " (t .factors) ++ item " different " (t .different) ++ item " free " (t .free) ++ ascii "\n" ≡ totalText (t .factors) (t .different) (t .free)
+    → item "total " (t .factors) ++ item " different " (t .different) ++ item " free " (t .free) ++ ascii "\n" ≡ totalText (asTotals t)
 unfolding totalText
 totals-are t = refl
 
-pub lines-are : (p d : ℕ) (xs : List Part) {t : Totals} → TotalsOf (map asPart xs) t
-    → headText p d ++ heldText xs ++ totalText (t .factors) (t .different) (t .free) ≡ partsText p d (map asPart xs)
+pub lines-are : (s : Sheet) → length (s .coefs) ≡ 33 → s .degree ≤ 32 → (xs : List Part) {t : Totals} → TotalsOf (map asPart xs) t
+    → headText (s .prime) (s .degree) ++ heldText xs ++ totalText (asTotals t) ≡ partsText (asSheet s) (map asPart xs)
 unfolding partsText
-lines-are p d xs (e, f, g) =
-    let Ps = map asPart xs in
-    let totals = totalText (total Ps) (different (listOf Ps)) (freeDigits Ps) in
-    rw (e, f, g) (ap (λ (l : List ℕ). headText p d ++ l ++ totals) (sym (flatMap-map partText asPart xs)))
+lines-are s long l xs e =
+    rw (degree-listed (s .degree) (s .coefs) (omega arith))
+    (ap₂ (λ (parts totals : List ℕ). headText (s .prime) (s .degree) ++ parts ++ totals) (sym (flatMap-map partText asPart xs)) (ap totalText e))
 
--- the lines for the sheet of p and f, which is of degree d
-pub text-of-sheet : (p d : ℕ) (f : Poly) (a : Parts) → heldParts a ≡ partsOf p f → degree f ≡ d
-    → partsText p d (heldParts a) ≡ answerText (sheetOf p f)
+-- the lines of a sheet's own parts
+pub text-of-sheet : (s : Sheet) (a : Parts) → heldParts a ≡ sheetParts (asSheet s) → partsText (asSheet s) (heldParts a) ≡ answerText (asSheet s)
 unfolding answerText
-text-of-sheet p d f a is top = ap₂ (partsText p) (sym top) is
+text-of-sheet s a is = ap (partsText (asSheet s)) is

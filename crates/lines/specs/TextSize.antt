@@ -36,7 +36,8 @@ use Rattle.algebra.specs.TakenPrimes.{fits-byte, square-fits-byte}
 use Rattle.factorisation.specs.Members.{All, all-cons, all-tail, all-append}
 use Rattle.factorisation.specs.Sums.{total as sum, total-one, member-le}
 use Rattle.theorems.specs.AnswerLayout.{sheetParts}
-use Rattle.theorems.specs.AnswerSize.{Byte}
+use Rattle.theorems.specs.CommandBytes.{Byte}
+use Rattle.theorems.specs.ReaderBounds.{lastNumber}
 use Rattle.theorems.specs.PartShapes.{partDegree, partDegrees, FactorShape, PartShape, total-bound, free-bound, different-bound}
 use Rattle.theorems.specs.Term3.{shapes, parts-degrees}
 use Rattle.pieces.specs.Shifting.{all-entries}
@@ -125,14 +126,14 @@ module _ {n : ℕ} (small : n ≤ 256) where
       factors : All (λ q. Sized (19 * (degree (q .poly) * q .times)) (factorText q)) (P .splitting .factors)
       factors q i = sized-factor q (s .factors q i) (omega (arith, member-le (λ (r : Factor). degree (r .poly) * r .times) i, s .degrees))
 
-  sized-parts : (p d : ℕ) (Ps : List Part) → p < 1000 → d < 1000 → All (PartShape n) Ps → partDegrees Ps ≤ degreeLimit
-      → Sized (54 + 38 * partDegrees Ps) (partsText p d Ps)
+  sized-parts : (s : Sheet) (Ps : List Part) → s .prime < 1000 → degree (s .poly) < 1000 → All (PartShape n) Ps → partDegrees Ps ≤ degreeLimit
+      → Sized (54 + 38 * partDegrees Ps) (partsText s Ps)
   unfolding partsText headText totalText all
-  sized-parts p d Ps k l h u =
+  sized-parts s Ps k l h u =
       let all-low = total-bound Ps h in
       sized-within (omega arith)
       (sized-append
-      (sized-append (sized-append (sized-append (sized-item "prime " tt p k) (sized-item " degree " tt d l)) (sized-word "\n" tt))
+      (sized-append (sized-append (sized-append (sized-item "prime " tt (s .prime) k) (sized-item " degree " tt (degree (s .poly)) l)) (sized-word "\n" tt))
       (sized-each 38 partDegree partText Ps (λ P i. sized-part P (h P i) (omega (arith, member-le partDegree i)))))
       (sized-append (sized-append (sized-append (sized-item "total " tt (total Ps) (omega arith))
       (sized-item " different " tt (different (listOf Ps)) (omega (arith, different-bound (listOf Ps)))))
@@ -147,9 +148,9 @@ answer-sized s g =
     let t : taken p ≡ true = passes (taken p) (g .prime) in
     let prime : p < 1000 = omega (arith, fits-byte t) in
     let low : partDegrees (sheetParts s) ≤ degreeLimit = omega (arith, parts-degrees s g, g .fits) in
-    sized-within (omega arith) (sized-parts (square-fits-byte p t) p (degree (s .poly)) (sheetParts s) prime (omega (arith, g .fits)) (shapes s g) low)
+    sized-within (omega arith) (sized-parts (square-fits-byte p t) s (sheetParts s) prime (omega (arith, g .fits)) (shapes s g) low)
 
-pub refusal-sized : (k at : ℕ) → k ≤ 8 → at ≤ sheetLimit → Sized textRoom (refusalText k at)
+pub refusal-sized : (k at : ℕ) → k ≤ lastNumber → at ≤ sheetLimit → Sized textRoom (refusalText k at)
 unfolding refusalText all
 refusal-sized k at l u =
     sized-within (omega arith)

@@ -4,21 +4,22 @@ ghost use mathlib.Core.Path.{_≡_};
 ghost use mathlib.Core.List.{_++_, flatMap};
 ghost use Prim.Native.Nat.{_≤_, _<_};
 ghost use lib.ListN.{length, take};
-ghost use Rattle.specification.specs.Sheets.{sheetOf};
 ghost use Rattle.specification.specs.Promises.{GoodSheet, sheetLimit};
 ghost use Rattle.specification.specs.Text as text;
 ghost use Rattle.factorisation.specs.Members.{All};
 ghost use Rattle.factors.specs.Cut.{MonicModSquare};
-ghost use Rattle.verdicts.specs.Given.{listed};
+ghost use Rattle.commands.specs.Views.{asSheet};
 ghost use Rattle.verdicts.specs.Views.{asVerdict, asFactor, asFactors, asPart};
 ghost use Rattle.pieces.specs.Views.{held};
 ghost use Rattle.writing.specs.Area.{Wrote, Room};
+ghost use Rattle.answers.specs.Layout.{asTotals};
 ghost use Rattle.answers.specs.Writable.{DegreesFit, heldParts, Writable};
 ghost use Rattle.lines.specs.Layout.{heldText};
 ghost use Rattle.lines.specs.TextSize.{textRoom};
 use answers::Totals;
 use answers::count_totals;
 use answers::is_split;
+use commands::Sheet;
 use pieces::Parts;
 use polynomial::Poly;
 use sheets::read_sheet;
@@ -192,32 +193,33 @@ fn write_parts(out: &mut [u8], at: usize, parts: Parts) -> usize
 
 // "The last line holds the three totals".
 fn write_totals(out: &mut [u8], at: usize, t: Totals) -> usize
-    requires { ⌜ Room (now out) at (text.totalText (t .factors) (t .different) (t .free)) ⌝ }
-    ensures { λ r. ⌜ Wrote (now (out .entry)) (now (out .exit)) at (text.totalText (t .factors) (t .different) (t .free)) r ⌝ }
+    requires { ⌜ Room (now out) at (text.totalText (asTotals t)) ⌝ }
+    ensures { λ r. ⌜ Wrote (now (out .entry)) (now (out .exit)) at (text.totalText (asTotals t)) r ⌝ }
 {
     let next = write_items(out, at, b"total ", t.factors, b" different ", t.different);
     let last = write_item(out, next, b" free ", t.free);
     put(out, last, LINE_FEED)
 }
 
-// The lines of a sheet of prime p and degree d whose parts these are.
-fn write_lines(out: &mut [u8], p: u8, d: usize, parts: Parts) -> usize
-    requires { ⌜ Writable p d parts × Room (now out) 0 (text.partsText p d (heldParts parts)) ⌝ }
-    ensures { λ r. ⌜ Wrote (now (out .entry)) (now (out .exit)) 0 (text.partsText p d (heldParts parts)) r ⌝ }
+// The lines of a sheet whose parts these are.
+fn write_lines(out: &mut [u8], s: Sheet, parts: Parts) -> usize
+    requires { ⌜ Writable s parts × Room (now out) 0 (text.partsText (asSheet s) (heldParts parts)) ⌝ }
+    ensures { λ r. ⌜ Wrote (now (out .entry)) (now (out .exit)) 0 (text.partsText (asSheet s) (heldParts parts)) r ⌝ }
 {
     let t = count_totals(parts);
-    let first = write_head(out, 0, p, d);
+    let first = write_head(out, 0, s.prime, s.degree);
     let last = write_parts(out, first, parts);
     write_totals(out, last, t)
 }
 
-// The lines for the sheet of p and f, which is of degree d.
-fn answer_text(out: &mut [u8], p: u8, d: usize, f: [u16; 33]) -> usize
-    requires { ⌜ MonicModSquare p f d × GoodSheet (sheetOf p (listed d f)) × (textRoom ≤ length (now out)) ⌝ }
-    ensures { λ r. ⌜ Wrote (now (out .entry)) (now (out .exit)) 0 (text.answerText (sheetOf p (listed d f))) r ⌝ }
+// The lines for a sheet.
+fn answer_text(out: &mut [u8], s: Sheet) -> usize
+    requires { ⌜ MonicModSquare (s .prime) (s .coefs) (s .degree) × GoodSheet (asSheet s) × (textRoom ≤ length (now out)) ⌝ }
+    ensures { λ r. ⌜ Wrote (now (out .entry)) (now (out .exit)) 0 (text.answerText (asSheet s)) r ⌝ }
 {
-    let parts = parts::split(f, d, p as u16);
-    write_lines(out, p, d, parts)
+    let f = s.coefs;
+    let parts = parts::split(f, s.degree, s.prime as u16);
+    write_lines(out, s, parts)
 }
 
 // "A refusal prints `refused` number `at` place".
@@ -234,10 +236,10 @@ pub fn write_text(out: &mut [u8], sheet: &[u8]) -> usize
     requires { ⌜ textRoom ≤ length (now out) ⌝ }
     ensures { λ r. ⌜ Wrote (now (out .entry)) (now (out .exit)) 0 (text.printed (now (sheet .entry))) r ⌝ }
 {
-    let s = read_sheet(sheet);
-    if s.number != 0 {
-        return refusal_text(out, s.number, s.place);
+    let read = read_sheet(sheet);
+    if read.number != 0 {
+        return refusal_text(out, read.number, read.place);
     }
-    let f = s.coefs;
-    answer_text(out, s.prime, s.degree, f)
+    let s = read.sheet;
+    answer_text(out, s)
 }

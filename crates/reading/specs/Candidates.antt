@@ -1,92 +1,111 @@
 -- The candidate: a good sheet where one is found, and the sheet of every answer.
--- Proves the promise `CandidateOf` from that of the product, and where nothing is found. Assumes nothing.
-use mathlib.Core.Path.{_≡_, sym, _∙_, ap, ap₂, subst}
-use mathlib.Core.Bool.{true, false, false≢true}
-use mathlib.Core.List.{List}
-use Prim.Native.Nat.{ℕ, suc, _≤_, _<_, _*_ as _*ℕ_}
+-- Proves the promise `CandidateOf` from those of the place and the product, and where nothing is found. Assumes nothing.
+use mathlib.Core.Path.{_≡_, refl, sym, _∙_, ap, ap₂, subst}
+use mathlib.Core.Bool.{true, false}
+use mathlib.Core.List.{List, [], _∷_}
+use mathlib.Core.Logic.{⊎-elim}
+use Prim.Native.Nat.{ℕ, suc, _≤_, _<_, _+_ as _+ℕ_, _*_ as _*ℕ_}
 use native.Mathlib.Omega.{arith}
-use lib.Dec.{T}
-use lib.ListN.{length, getD, drop}
+use lib.Dec.{T, lit<}
+use lib.ListN.{length, getD}
+use Rattle.specification.specs.Lists.{first}
 use Rattle.specification.specs.Limits.{taken}
-use Rattle.specification.specs.Sheets.{Sheet, sheetOf}
+use Rattle.specification.specs.Commands.{Command, command, operand, operandCount, commands, firstWith}
+use Rattle.specification.specs.Sheets as spec
+use Rattle.specification.specs.Sheets.{sheetOf}
 use Rattle.specification.specs.Answers.{answer}
 use Rattle.specification.specs.Promises.{GoodSheet}
-use Rattle.algebra.specs.Numbers.{square-large}
+use Rattle.algebra.specs.Numbers.{lt-or-le, square-large}
 use Rattle.algebra.specs.Tests.{passes}
+use Rattle.algebra.specs.TakenPrimes.{is-prime}
 use Rattle.algebra.specs.CoefficientLists.{poly}
 use Rattle.algebra.specs.ListDivision.{poly-take}
-use Rattle.theorems.specs.MonicLists.{MonicList, to-claims}
+use Rattle.theorems.specs.MonicLists.{MonicList, from-claims, to-claims}
 use Rattle.theorems.specs.Factorisations.{monic-equal}
-use Rattle.algebra.specs.TakenPrimes.{is-prime}
+use Rattle.theorems.specs.CommandsReadBack.{WellFormed}
+use Rattle.theorems.specs.AnswerReadBack.{head-back}
 use Rattle.pieces.specs.ArrayPieces.{MonicArray, listed-monic}
-use Rattle.sheets.specs.Views.{polyIn}
+use Rattle.commands.specs.Views.{polyIn}
 use Rattle.reading.specs.declared.Candidate.{Candidate}
 use Rattle.reading.specs.declared.Grown.{Grown}
-use Rattle.reading.specs.Found.{ProductOf, CandidateOf}
-use Rattle.reading.specs.AnswerItems.{itemsOf, afterItems, answer-items, large, monic, items-degree, items-product, items-all-fit}
+use Rattle.reading.specs.Places.{commandAt, operands-there, operand-at}
+use Rattle.reading.specs.Found.{not-found, FoundAt, ProductOf, CandidateOf}
+use Rattle.reading.specs.Finding.{first-found, first-missing}
+use Rattle.reading.specs.AnswerFits.{commands-fit, degrees-fit, answer-product}
 
 -- nothing is found, and the bytes are no answer
-pub none-found : {bytes : List ℕ} {r : Candidate} → r .found ≡ false → ((s : Sheet) → GoodSheet s → bytes ≡ answer s → ⊥) → CandidateOf bytes r
-none-found z h = record {
-  sound = λ y. absurd (false≢true (sym z ∙ y));
-  good = λ y. absurd (false≢true (sym z ∙ y));
+pub no-answer : {bytes : List ℕ} {r : Candidate} → r .found ≡ false → ((s : spec.Sheet) → GoodSheet s → bytes ≡ answer s → ⊥) → CandidateOf bytes r
+no-answer z h = record {
+  sound = not-found z;
+  good = not-found z;
   exact = λ s g e. absurd (h s g e);
 }
 
-module _ {bytes : List ℕ} (s : Sheet) (g : GoodSheet s) (e : bytes ≡ answer s) where
-  pub answer-long : 2 ≤ length bytes
-  answer-long = omega (arith, ap length (e ∙ answer-items s))
+-- ---- what is found in an answer
 
-  answer-prime : getD bytes 1 0 ≡ s .prime
-  answer-prime = ap (λ (l : List ℕ). getD l 1 0) (e ∙ answer-items s)
+module _ {bytes : List ℕ} (s : spec.Sheet) (g : GoodSheet s) (e : bytes ≡ answer s) {at : ℕ} (h : FoundAt bytes 0x01 at) where
+  first-is : firstWith 0x01 (commands bytes) ≡ command 0x01 (s .prime ∷ [])
+  first-is = ap (λ (l : List ℕ). firstWith 0x01 (commands l)) e ∙ head-back s
 
-  pub answer-taken : taken (getD bytes 1 0) ≡ true
-  answer-taken = ap taken answer-prime ∙ passes (taken (s .prime)) (g .prime)
+  at-is : at < length bytes → commandAt bytes at ≡ command 0x01 (s .prime ∷ [])
+  at-is l = sym (first-found h l) ∙ first-is
 
-  module _ {n : ℕ} {r : Grown} (square : getD bytes 1 0 *ℕ getD bytes 1 0 ≡ n) (h : ProductOf bytes n r) where
-    modulus : n ≡ s .prime *ℕ s .prime
-    modulus = sym square ∙ ap (λ (p : ℕ). p *ℕ p) answer-prime
+  -- a first command without operands is none of an answer's
+  inside : at < length bytes
+  inside =
+      let none : length bytes ≤ at → command 0x01 [] ≡ command 0x01 (s .prime ∷ []) = λ l. sym (first-missing h l) ∙ first-is in
+      ⊎-elim (λ l. l) (λ l. absurd (omega (arith, ap (λ (c : Command). length (c .operands)) (none l)))) (lt-or-le at (length bytes))
 
-    product-of : ProductOf bytes (s .prime *ℕ s .prime) r
-    product-of = subst (λ (m : ℕ). ProductOf bytes m r) modulus h
+  pub prime-there : at +ℕ 2 ≤ length bytes
+  unfolding operandCount first
+  prime-there =
+      omega (arith, operands-there bytes at inside (subst WellFormed (sym (at-is inside)) refl), ap operandCount (h .here inside))
 
-    found-all : (r .found ≡ true) × (poly (s .prime *ℕ s .prime) (r .coefs) ≡ poly (s .prime *ℕ s .prime) (s .poly))
-    found-all =
-        let (found, is) = product-of .exact (itemsOf s) (afterItems s) (items-all-fit s g) (omega (arith, items-degree s g, g .fits))
-        (ap (drop 4) (e ∙ answer-items s)) in
-        (found, is ∙ sym (items-product s g))
+  prime-is : getD bytes (at +ℕ 1) 0 ≡ s .prime
+  prime-is =
+      sym (operand-at bytes at 0x01 0 (h .here inside) (unfold operandCount first in lit< tt)) ∙ ap (λ (c : Command). operand c 0) (at-is inside)
 
-    answer-found : r .found ≡ true
-    answer-found = found-all .0
+  pub prime-taken : taken (getD bytes (at +ℕ 1) 0) ≡ true
+  prime-taken = ap taken prime-is ∙ passes (taken (s .prime)) (g .prime)
 
-    array : MonicArray (s .prime *ℕ s .prime) (r .degree) (r .coefs)
-    array = product-of .sound answer-found
+  module _ {r : Grown} (whole : ProductOf bytes (getD bytes (at +ℕ 1) 0) r) where
+    abbrev n : ℕ
+    n = s .prime *ℕ s .prime
 
-    answer-poly : polyIn (r .degree) (r .coefs) ≡ s .poly
-    answer-poly =
-        monic-equal (large s g) (listed-monic (large s g) array) (monic s g)
-        (poly-take (s .prime *ℕ s .prime) (suc (r .degree)) (r .coefs) (array .monic .below) ∙ found-all .1)
+    large : 1 < n
+    large = square-large (s .prime) (is-prime (passes (taken (s .prime)) (g .prime)) .large)
 
-    pub answer-degree : 0 < r .degree
-    answer-degree = omega (arith, ap length answer-poly, listed-monic (large s g) array .reduced .len, g .monic .positive)
+    product-of : ProductOf (answer s) (s .prime) r
+    product-of = rw (sym e, sym prime-is) whole
+
+    found : r .found ≡ true
+    found = product-of .exact (commands-fit s g) (degrees-fit s g)
+
+    array : MonicArray n (r .degree) (r .coefs)
+    array = product-of .sound found .0
+
+    poly-is : polyIn (r .degree) (r .coefs) ≡ s .poly
+    poly-is =
+        monic-equal large (listed-monic large array) (from-claims (omega (arith, large)) (g .monic))
+        (poly-take n (suc (r .degree)) (r .coefs) (array .monic .below) ∙ product-of .sound found .1 ∙ answer-product s g (omega (arith, large)))
+
+    pub degree-positive : 0 < r .degree
+    degree-positive = omega (arith, ap length poly-is, listed-monic large array .reduced .len, g .monic .positive)
 
 -- ---- a product of degree 1 or more
 
 -- a monic polynomial in an array makes a good sheet
-pub array-good : (p d : ℕ) (coefs : List ℕ) → taken p ≡ true → 0 < d → MonicArray (p *ℕ p) d coefs → GoodSheet (sheetOf p (polyIn d coefs))
+array-good : (p d : ℕ) (coefs : List ℕ) → taken p ≡ true → 0 < d → MonicArray (p *ℕ p) d coefs → GoodSheet (sheetOf p (polyIn d coefs))
 array-good p d coefs t l m = record { prime = subst T (sym t) tt; monic = to-claims l list; fits = omega (arith, list .reduced .len, m .fits) }
   where
     list : MonicList (p *ℕ p) d (polyIn d coefs)
     list = listed-monic (square-large p (is-prime t .large)) m
 
-module _ {bytes : List ℕ} {n : ℕ} {r : Grown} (square : getD bytes 1 0 *ℕ getD bytes 1 0 ≡ n) (h : ProductOf bytes n r) where
-  sheet-array : r .found ≡ true → MonicArray (getD bytes 1 0 *ℕ getD bytes 1 0) (r .degree) (r .coefs)
-  sheet-array y = subst (λ (k : ℕ). MonicArray k (r .degree) (r .coefs)) (sym square) (h .sound y)
-
-  pub candidate-found : taken (getD bytes 1 0) ≡ true → 0 < r .degree
-      → CandidateOf bytes (record { found = r .found; prime = getD bytes 1 0; degree = r .degree; coefs = r .coefs })
-  candidate-found t l = record {
-    sound = λ y. let m = sheet-array y in record { prime = t; positive = l; fits = m .fits; reduced = m .reduced; monic = m .monic };
-    good = λ y. array-good (getD bytes 1 0) (r .degree) (r .coefs) t l (sheet-array y);
-    exact = λ s g e. (answer-found s g e square h, ap₂ sheetOf (sym (answer-prime s g e)) (sym (answer-poly s g e square h)));
-  }
+pub candidate-found : {bytes : List ℕ} {at : ℕ} {r : Grown} → FoundAt bytes 0x01 at → ProductOf bytes (getD bytes (at +ℕ 1) 0) r
+    → taken (getD bytes (at +ℕ 1) 0) ≡ true → 0 < r .degree
+    → CandidateOf bytes (record { found = r .found; sheet = record { prime = getD bytes (at +ℕ 1) 0; degree = r .degree; coefs = r .coefs } })
+candidate-found {bytes} {at} {r} h whole t l = record {
+  sound = λ y. let m = whole .sound y .0 in record { prime = t; positive = l; fits = m .fits; reduced = m .reduced; monic = m .monic };
+  good = λ y. array-good (getD bytes (at +ℕ 1) 0) (r .degree) (r .coefs) t l (whole .sound y .0);
+  exact = λ s g e. (found s g e h whole, ap₂ sheetOf (sym (prime-is s g e h)) (sym (poly-is s g e h whole)));
+}

@@ -1,74 +1,104 @@
--- What the functions promise: whatever is found is monic, and of an answer's bytes the right thing is found.
+-- What the functions promise of any bytes, in the specification's words: what is found is what the bytes' commands say, and it is found where they fit.
 -- `CandidateOf` is the promise of the crate: the candidate is a good sheet, and the only sheet whose answer the bytes can be.
 -- Assumes nothing.
-use mathlib.Core.Path.{_≡_}
-use mathlib.Core.Bool.{true}
-use mathlib.Core.List.{List, [], _∷_, _++_, map, flatMap}
+use mathlib.Core.Path.{_≡_, sym, _∙_}
+use mathlib.Core.Bool.{Bool, true, false, false≢true}
+use mathlib.Core.List.{List, _++_, map}
 use Prim.Native.Nat.{ℕ, _≤_, _<_, _+_ as _+ℕ_, _*_ as _*ℕ_}
-use lib.ListN.{drop}
+use lib.ListN.{length, getD, replicate}
 use Rattle.specification.specs.Limits.{degreeLimit}
-use Rattle.specification.specs.Polynomials as spec
-use Rattle.specification.specs.Parts.{Factor}
-use Rattle.specification.specs.Sheets.{Sheet, sheetOf, coefficientBytes}
-use Rattle.specification.specs.Answers as answers
-use Rattle.specification.specs.Claims as claims
+use Rattle.specification.specs.Polynomials.{Poly, monomial}
+use Rattle.specification.specs.Commands.{Command, commands}
+use Rattle.specification.specs.Coefficients.{givenIndex, givenValue}
+use Rattle.specification.specs.Sheets as spec
+use Rattle.specification.specs.Answers.{answer}
+use Rattle.specification.specs.FactorList.{withCoefficients, factorsIn, factorList}
+use Rattle.specification.specs.Claims.{degreeSum}
 use Rattle.specification.specs.Promises.{GoodSheet}
 use Rattle.algebra.specs.Divisibility.{pow, product}
 use Rattle.algebra.specs.Residues.{Residues}
 use Rattle.algebra.specs.Polynomials.{PolyRing, _·_}
-use Rattle.algebra.specs.CoefficientLists.{poly}
-use Rattle.factorisation.specs.Members.{All}
-use Rattle.theorems.specs.Factors.{degrees, powered}
-use Rattle.pieces.specs.ArrayPieces.{MonicArray}
+use Rattle.algebra.specs.CoefficientLists.{ℤ[x]/, poly}
+use Rattle.theorems.specs.CommandsReadBack.{Without}
 use Rattle.factors.specs.Cut.{MonicModSquare}
-use Rattle.sheets.specs.Views.{polyIn}
+use Rattle.pieces.specs.ArrayPieces.{MonicArray}
+use Rattle.commands.specs.Views.{asSheet, polyIn}
 use Rattle.reading.specs.declared.Candidate.{Candidate}
+use Rattle.reading.specs.declared.Coefficient.{Coefficient}
 use Rattle.reading.specs.declared.Coefficients.{Coefficients}
-use Rattle.reading.specs.declared.Item.{Item}
+use Rattle.reading.specs.declared.Factor.{Factor}
 use Rattle.reading.specs.declared.Grown.{Grown}
-use Rattle.reading.specs.Items as items
-use Rattle.reading.specs.Items.{itemBytes, factorsOf, FactorFits, Fits, Other}
+use Rattle.reading.specs.Places.{commandsFrom, commandAt, placeAfter}
+use Rattle.reading.specs.Fits.{CoefficientFits, CoefficientsFit, Fits}
+
+-- nothing follows from what is not found
+pub not-found : {A : Type 0} {t : Bool} → t ≡ false → t ≡ true → A
+not-found z y = absurd (false≢true (sym z ∙ y))
+
+-- r is the place of the first command with a code, or the end: the commands before it have other codes
+pub record FoundAt (bytes : List ℕ) (code r : ℕ) : Type 0 where
+  pub before : List Command
+  pub cut : commands bytes ≡ before ++ commandsFrom bytes r
+  pub others : Without code before
+  pub within : r ≤ length bytes
+  pub here : r < length bytes → getD bytes r 0 ≡ code
+
+-- ---- a factor
+
+-- the coefficient that the command at a place gives a polynomial of degree d
+pub record CoefficientOf (bytes : List ℕ) (at d p : ℕ) (r : Coefficient) : Type 0 where
+  pub sound : r .found ≡ true
+      → CoefficientFits d (p *ℕ p) (commandAt bytes at)
+      × (r .index ≡ givenIndex (commandAt bytes at))
+      × (r .value ≡ givenValue (commandAt bytes at))
+  pub exact : CoefficientFits d (p *ℕ p) (commandAt bytes at) → r .found ≡ true
 
 -- the polynomial of degree d whose coefficients are written from a place on
-pub record CoefficientsOf (bytes : List ℕ) (at d n : ℕ) (r : Coefficients) : Type 0 where
-  pub sound : r .found ≡ true → MonicArray n d (r .coefs) × (at ≤ r .next)
-  pub exact : (q : spec.Poly) (rest : List ℕ) → claims.Monic n q → spec.degree q ≡ d → Other rest
-      → drop at bytes ≡ coefficientBytes 0 (spec.lower q) ++ rest
-      → (r .found ≡ true) × (polyIn d (r .coefs) ≡ q) × (drop (r .next) bytes ≡ rest)
+pub record CoefficientsOf (bytes : List ℕ) (at d p : ℕ) (r : Coefficients) : Type 0 where
+  pub sound : r .found ≡ true → MonicArray (p *ℕ p) d (r .coefs) × (polyIn d (r .coefs) ≡ withCoefficients (monomial d) (commandsFrom bytes at))
+  pub exact : CoefficientsFit d (p *ℕ p) (commandsFrom bytes at) → r .found ≡ true
 
--- the factor at a place
-pub record FactorOf (bytes : List ℕ) (at n : ℕ) (r : Item) : Type 0 where
-  pub sound : r .found ≡ true → MonicArray n (r .degree) (r .coefs) × (at < r .next)
-  pub exact : (q : Factor) (rest : List ℕ) → FactorFits n q → Other rest → drop at bytes ≡ answers.factorBytes q ++ rest
-      → (r .found ≡ true) × (polyIn (r .degree) (r .coefs) ≡ q .poly) × (r .times ≡ q .times) × (drop (r .next) bytes ≡ rest)
+-- the list of the commands from a place on
+abbrev pub factorsFrom : List ℕ → ℕ → List Poly
+factorsFrom bytes at = factorsIn (commandsFrom bytes at)
 
--- r is the item x, and `rest` follows; a head multiplies by 1
-pub record Matches (bytes : List ℕ) (n : ℕ) (x : items.Item) (rest : List ℕ) (r : Item) : Type 0 where
-  pub found : r .found ≡ true
-  pub follows : drop (r .next) bytes ≡ rest
-  pub weight : r .degree *ℕ r .times ≡ degrees (factorsOf (x ∷ []))
-  pub value : pow (PolyRing (Residues n)) (poly n (r .coefs)) (r .times) ≡ product (PolyRing (Residues n)) (map (powered n) (factorsOf (x ∷ [])))
+-- the factor at a place, with its repeats
+pub record FactorOf (bytes : List ℕ) (at p : ℕ) (r : Factor) : Type 0 where
+  pub sound : r .found ≡ true
+      → MonicArray (p *ℕ p) (r .degree) (r .coefs)
+      × (factorsFrom bytes at ≡ replicate (r .times) (polyIn (r .degree) (r .coefs)) ++ factorsFrom bytes (placeAfter bytes at))
+  pub exact : Fits (p *ℕ p) (commandsFrom bytes at) → r .found ≡ true
 
--- the factor or the head at a place
-pub record ItemOf (bytes : List ℕ) (at n : ℕ) (r : Item) : Type 0 where
-  pub sound : r .found ≡ true → MonicArray n (r .degree) (r .coefs) × (at < r .next)
-  pub exact : (x : items.Item) (rest : List ℕ) → Fits n x → Other rest → drop at bytes ≡ itemBytes x ++ rest → Matches bytes n x rest r
+-- ---- the product
+
+-- the product of a list modulo n
+abbrev pub productOf : (n : ℕ) → List Poly → ℤ[x]/ n
+productOf n L = product (PolyRing (Residues n)) (map (poly n) L)
 
 -- a times b to the t, where it has room
 pub record GrownBy (n : ℕ) (a : List ℕ) (d : ℕ) (b : List ℕ) (e t : ℕ) (r : Grown) : Type 0 where
-  pub sound : r .found ≡ true → MonicArray n (r .degree) (r .coefs)
-  pub exact : d +ℕ e *ℕ t ≤ degreeLimit
-      → (r .found ≡ true) × (r .degree ≡ d +ℕ e *ℕ t) × (poly n (r .coefs) ≡ poly n a · pow (PolyRing (Residues n)) (poly n b) t)
+  pub sound : r .found ≡ true
+      → MonicArray n (r .degree) (r .coefs) × (r .degree ≡ d +ℕ e *ℕ t) × (poly n (r .coefs) ≡ poly n a · pow (PolyRing (Residues n)) (poly n b) t)
+  pub exact : d +ℕ e *ℕ t ≤ degreeLimit → r .found ≡ true
 
--- the product of the factors past the degree
-pub record ProductOf (bytes : List ℕ) (n : ℕ) (r : Grown) : Type 0 where
-  pub sound : r .found ≡ true → MonicArray n (r .degree) (r .coefs)
-  pub exact : (xs : List items.Item) (rest : List ℕ) → All (Fits n) xs → degrees (factorsOf xs) ≤ degreeLimit
-      → drop 4 bytes ≡ flatMap itemBytes xs ++ (0x13 ∷ rest)
-      → (r .found ≡ true) × (poly n (r .coefs) ≡ product (PolyRing (Residues n)) (map (powered n) (factorsOf xs)))
+-- a times what the command at a place lists: with what is listed after it, as much as a with what is listed from there on
+pub record MultipliedAt (bytes : List ℕ) (at p : ℕ) (a : List ℕ) (d : ℕ) (r : Grown) : Type 0 where
+  pub sound : r .found ≡ true
+      → let after : List Poly = factorsFrom bytes (placeAfter bytes at) in
+      MonicArray (p *ℕ p) (r .degree) (r .coefs)
+      × (r .degree +ℕ degreeSum after ≡ d +ℕ degreeSum (factorsFrom bytes at))
+      × (poly (p *ℕ p) (r .coefs) · productOf (p *ℕ p) after ≡ poly (p *ℕ p) a · productOf (p *ℕ p) (factorsFrom bytes at))
+  pub exact : Fits (p *ℕ p) (commandsFrom bytes at) → d +ℕ degreeSum (factorsFrom bytes at) ≤ degreeLimit → r .found ≡ true
+
+-- the product of the bytes' list
+pub record ProductOf (bytes : List ℕ) (p : ℕ) (r : Grown) : Type 0 where
+  pub sound : r .found ≡ true → MonicArray (p *ℕ p) (r .degree) (r .coefs) × (poly (p *ℕ p) (r .coefs) ≡ productOf (p *ℕ p) (factorList bytes))
+  pub exact : Fits (p *ℕ p) (commands bytes) → degreeSum (factorList bytes) ≤ degreeLimit → r .found ≡ true
+
+-- ---- the sheet
 
 -- "the answer to" a sheet can be that of the candidate only
 pub record CandidateOf (bytes : List ℕ) (r : Candidate) : Type 0 where
-  pub sound : r .found ≡ true → MonicModSquare (r .prime) (r .coefs) (r .degree)
-  pub good : r .found ≡ true → GoodSheet (sheetOf (r .prime) (polyIn (r .degree) (r .coefs)))
-  pub exact : (s : Sheet) → GoodSheet s → bytes ≡ answers.answer s → (r .found ≡ true) × (s ≡ sheetOf (r .prime) (polyIn (r .degree) (r .coefs)))
+  pub sound : r .found ≡ true → let s = r .sheet in MonicModSquare (s .prime) (s .coefs) (s .degree)
+  pub good : r .found ≡ true → GoodSheet (asSheet (r .sheet))
+  pub exact : (s : spec.Sheet) → GoodSheet s → bytes ≡ answer s → (r .found ≡ true) × (s ≡ asSheet (r .sheet))

@@ -56,8 +56,8 @@ module _ (n : ℕ) (a : List ℕ) (d : ℕ) (b : List ℕ) (e : ℕ) where
 
     pub grown-done : {t : ℕ} → i ≤ t → t ≤ i → GrownBy n a d b e t (record { found = true; degree = degree; coefs = coefs })
     grown-done {t} l u = record {
-      sound = λ z. w .array;
-      exact = λ room. (refl, rw s (w .degree-is), rw s (w .is));
+      sound = λ z. (w .array, rw s (w .degree-is), rw s (w .is));
+      exact = λ room. refl;
     }
       where
         s : t ≡ i

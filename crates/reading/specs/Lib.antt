@@ -1,11 +1,10 @@
-pub mod Items
+pub mod Places
+pub mod Fits
 pub mod Found
-pub mod Bytes
-pub mod WrittenCoefficients
-pub mod LeftCoefficients
+pub mod Finding
 pub mod ReadingCoefficients
+pub mod ReadingFactors
 pub mod Growing
 pub mod Multiplying
-pub mod ReadingItems
-pub mod AnswerItems
+pub mod AnswerFits
 pub mod Candidates

@@ -1,183 +1,142 @@
--- The loop that multiplies an answer's factors: `Multiplying`, the product so far and the items that are left.
--- Proves how the loop begins and goes on, that it does not give up on an answer's items, and that it ends with their product.
+-- The product of a list that is read command by command: one command, and the loop with `Multiplying`, the product so far and what is left.
+-- Proves that a command multiplies by what it lists, how the loop begins and goes on, and that it ends with the product of the whole list.
 -- Assumes nothing.
-use mathlib.Core.Path.{_≡_, refl, sym, _∙_, ap}
-use mathlib.Core.Bool.{true, false, false≢true}
-use mathlib.Core.List.{List, [], _∷_, _++_, map, flatMap, append-assoc}
-use mathlib.Core.List.{List·Memᴰ·head as here}
-use Prim.Native.Nat.{ℕ, _≤_, _<_, _+_ as _+ℕ_, _*_ as _*ℕ_}
+use mathlib.Core.Path.{_≡_, refl, sym, _∙_, ap, ap₂}
+use mathlib.Core.Bool.{true, false}
+use mathlib.Core.List.{List, [], _∷_, _++_, map}
+use mathlib.Core.Logic.{_≢_}
+use Prim.Native.Nat.{ℕ, zero, suc, _≤_, _<_, _+_ as _+ℕ_, _*_ as _*ℕ_}
 use native.Mathlib.Omega.{arith}
-use lib.ListN.{length, getD, drop, replicate}
-use Rattle.specification.specs.Limits.{degreeLimit}
-use Rattle.specification.specs.Parts.{Factor}
-use Rattle.specification.specs.Answers.{factorBytes}
+use lib.ListN.{length, getD, replicate}
+use lib.Seq.{length-take-le}
+use borrow.Author.Tests.{ne-eqb}
+use Rattle.specification.specs.Polynomials.{Poly}
+use Rattle.specification.specs.Commands.{operandCount, commands}
+use Rattle.specification.specs.FactorList.{factorsIn, factorList}
+use Rattle.specification.specs.Claims.{degreeSum}
 use Rattle.algebra.specs.Ring.{CommRing, mul-one}
-use Rattle.algebra.specs.Divisibility.{pow, product, product-nil, product-one, product-cons}
+use Rattle.algebra.specs.Divisibility.{pow, pow-zero, pow-suc, product-nil, product-cons}
 use Rattle.algebra.specs.Residues.{Residues}
-use Rattle.algebra.specs.Polynomials.{PolyRing, _·_, 𝟏}
+use Rattle.algebra.specs.Polynomials.{PolyRing, _·_}
 use Rattle.algebra.specs.Degree.{monic-one}
 use Rattle.algebra.specs.CoefficientLists.{ℤ[x]/, poly}
+use Rattle.algebra.specs.ListDivision.{poly-take}
 use Rattle.modular.specs.Coefficients.{unit, poly-unit}
-use Rattle.factorisation.specs.Members.{All, all-tail}
-use Rattle.factorisation.specs.Sums.{total}
-use Rattle.theorems.specs.Factors.{degrees, powered}
+use Rattle.factorisation.specs.Members.{all-cons}
+use Rattle.theorems.specs.CommandsReadBack.{factors-past}
 use Rattle.pieces.specs.ArrayPieces.{MonicArray}
-use Rattle.reading.specs.declared.Item as code
+use Rattle.commands.specs.Views.{polyIn}
+use Rattle.reading.specs.declared.Factor.{Factor}
 use Rattle.reading.specs.declared.Grown.{Grown}
-use Rattle.reading.specs.Items.{Item, head, one, itemBytes, factorsOf, Fits, Other}
-use Rattle.reading.specs.Found.{ItemOf, GrownBy, ProductOf}
-use Rattle.reading.specs.Bytes.{first-byte, enough}
+use Rattle.reading.specs.Places.{commandsFrom, commandAt, placeAfter, commands-step, commands-end}
+use Rattle.reading.specs.Fits.{Fits}
+use Rattle.reading.specs.Found.{not-found, factorsFrom, productOf, FactorOf, GrownBy, MultipliedAt, ProductOf}
 
--- ---- items, one by one
+abbrev 𝓐 : (n : ℕ) → CommRing (ℤ[x]/ n)
+𝓐 n = PolyRing (Residues n)
 
--- the bytes of items, and then the totals
-abbrev pub bytesOf : List Item → List ℕ → List ℕ
-bytesOf xs rest = flatMap itemBytes xs ++ (0x13 ∷ rest)
+-- ---- copies of a factor in an array, and then M
 
-bytes-cons : (x : Item) (xs : List Item) (rest : List ℕ) → bytesOf (x ∷ xs) rest ≡ itemBytes x ++ bytesOf xs rest
-unfolding flatMap
-bytes-cons x xs rest = append-assoc (itemBytes x) (flatMap itemBytes xs) (0x13 ∷ rest)
+module _ {n e : ℕ} {b : List ℕ} (m : MonicArray n e b) (M : List Poly) where
+  copies-degree : (t : ℕ) → degreeSum (replicate t (polyIn e b) ++ M) ≡ e *ℕ t +ℕ degreeSum M
+  unfolding degreeSum
+  copies-degree zero = omega arith
+  copies-degree (suc t) = omega (arith, copies-degree t, length-take-le (suc e) b (omega (arith, m .reduced .len, m .fits)))
 
--- no item begins as a coefficient does, nor do the totals
-bytes-other : (xs : List Item) (rest : List ℕ) → Other (bytesOf xs rest)
-unfolding flatMap factorBytes
-bytes-other [] rest = λ e. omega arith
-bytes-other (head d m v ∷ xs) rest = λ e. omega arith
-bytes-other (one q ∷ xs) rest = λ e. omega arith
+  copies-product : (t : ℕ) → productOf n (replicate t (polyIn e b) ++ M) ≡ pow (𝓐 n) (poly n b) t · productOf n M
+  copies-product zero = sym (ap (λ c. c · productOf n M) (pow-zero (𝓐 n) (poly n b)) ∙ 𝓐 n .*-one (productOf n M))
+  copies-product (suc t) =
+      product-cons (𝓐 n) (poly n (polyIn e b)) (map (poly n) (replicate t (polyIn e b) ++ M))
+      ∙ ap₂ _·_ (poly-take n (suc e) b (m .monic .below)) (copies-product t)
+      ∙ sym (𝓐 n .*-assoc (poly n b) (pow (𝓐 n) (poly n b) t) (productOf n M)) ∙ ap (λ c. c · productOf n M) (sym (pow-suc (𝓐 n) (poly n b) t))
 
-bytes-some : (xs : List Item) (rest : List ℕ) → 0 < length (bytesOf xs rest)
-unfolding flatMap factorBytes
-bytes-some [] rest = omega arith
-bytes-some (head d m v ∷ xs) rest = omega arith
-bytes-some (one q ∷ xs) rest = omega arith
+module _ (bytes : List ℕ) (p : ℕ) where
+  abbrev n : ℕ
+  n = p *ℕ p
 
--- no item begins as the totals do
-item-byte : (x : Item) (xs : List Item) (rest : List ℕ) → getD (bytesOf (x ∷ xs) rest) 0 0 ≡ 0x13 → ⊥
-unfolding flatMap factorBytes
-item-byte (head d m v) xs rest e = omega arith
-item-byte (one q) xs rest e = omega arith
+  -- ---- one command
 
-degrees-cons : (x : Item) (xs : List Item) → degrees (factorsOf (x ∷ xs)) ≡ degrees (factorsOf (x ∷ [])) +ℕ degrees (factorsOf xs)
-unfolding factorsOf total
-degrees-cons (head d m v) xs = omega arith
-degrees-cons (one q) xs = omega arith
+  module _ (at : ℕ) (a : List ℕ) (d : ℕ) where
+    abbrev after : List Poly
+    after = factorsFrom bytes (placeAfter bytes at)
 
-module _ (n : ℕ) where
-  abbrev 𝓐 : CommRing (ℤ[x]/ n)
-  𝓐 = PolyRing (Residues n)
+    -- no other command lists anything
+    pub multiplied-other : at < length bytes → getD bytes at 0 ≢ 0x12 → MonicArray n d a
+        → MultipliedAt bytes at p a d (record { found = true; degree = d; coefs = a })
+    multiplied-other l h m = record {
+      sound = λ y. (m, ap (λ (L : List Poly). d +ℕ degreeSum L) same, ap (λ (L : List Poly). poly n a · productOf n L) same);
+      exact = λ f room. refl;
+    }
+      where
+        same : after ≡ factorsFrom bytes at
+        same =
+            sym (ap factorsIn (commands-step bytes at l)
+            ∙ factors-past (commandAt bytes at ∷ []) (commandsFrom bytes (placeAfter bytes at))
+            (all-cons (ne-eqb (getD bytes at 0) 0x12 h) (λ c i. elim i [ ])))
 
-  -- the product of the factors among items
-  abbrev pub productOf : List Item → ℤ[x]/ n
-  productOf xs = product 𝓐 (map (powered n) (factorsOf xs))
+    module _ {f : Factor} (h : FactorOf bytes at p f) where
+      pub factor-missing : f .found ≡ false → MultipliedAt bytes at p a d (record { found = false; degree = d; coefs = a })
+      factor-missing z = record { sound = not-found refl; exact = λ fit room. not-found z (h .exact fit) }
 
-  no-items : productOf [] ≡ 𝟏
-  unfolding factorsOf
-  no-items = product-nil 𝓐
+      pub multiplied-by : {modulus : ℕ} {r : Grown} → f .found ≡ true → modulus ≡ n → GrownBy modulus a d (f .coefs) (f .degree) (f .times) r
+          → MultipliedAt bytes at p a d r
+      multiplied-by {modulus} {r} z e g = record {
+        sound = λ y.
+            let (array, degree-is, is) = (rw e at g) .sound y in
+            let multiplies = ap (λ c. c · productOf n after) is ∙ 𝓐 n .*-assoc _ _ _ ∙ ap (λ c. poly n a · c) (sym value) in
+            (array, omega (arith, degree-is, weight), multiplies);
+        exact = λ fit room. g .exact (omega (arith, weight));
+      }
+        where
+          monic : MonicArray n (f .degree) (f .coefs)
+          monic = h .sound z .0
 
-  -- a factor by itself
-  pub one-product : (q : Factor) → productOf (one q ∷ []) ≡ powered n q
-  unfolding factorsOf
-  one-product q = product-one 𝓐 (powered n q)
+          weight : degreeSum (factorsFrom bytes at) ≡ f .degree *ℕ f .times +ℕ degreeSum after
+          weight = ap degreeSum (h .sound z .1) ∙ copies-degree monic after (f .times)
 
-  product-items : (x : Item) (xs : List Item) → productOf (x ∷ xs) ≡ productOf (x ∷ []) · productOf xs
-  unfolding factorsOf
-  product-items (head d m v) xs = sym (ap (λ a. a · productOf xs) (product-nil 𝓐) ∙ 𝓐 .*-one (productOf xs))
-  product-items (one q) xs =
-      product-cons 𝓐 (powered n q) (map (powered n) (factorsOf xs)) ∙ ap (λ a. a · productOf xs) (sym (one-product q))
+          value : productOf n (factorsFrom bytes at) ≡ pow (𝓐 n) (poly n (f .coefs)) (f .times) · productOf n after
+          value = ap (productOf n) (h .sound z .1) ∙ copies-product monic after (f .times)
 
   -- ---- the loop
 
-  -- the array of 1
-  pub one-array : 1 < n → MonicArray n 0 (1 ∷ replicate 32 0)
-  one-array large = record { fits = omega arith; reduced = unit n large .reduced; monic = rw (unit n large .is) monic-one }
+  -- with what is left of the list, the product so far is that of the whole list
+  pub record Multiplying (coefs : List ℕ) (degree at : ℕ) : Type 0 where
+    pub array : MonicArray n degree coefs
+    pub degrees : degree +ℕ degreeSum (factorsFrom bytes at) ≡ degreeSum (factorList bytes)
+    pub multiplies : poly n coefs · productOf n (factorsFrom bytes at) ≡ productOf n (factorList bytes)
+    pub left : Fits n (commands bytes) → Fits n (commandsFrom bytes at)
 
-  module _ (bytes : List ℕ) where
-    -- the items ys are left of xs
-    pub record Left (xs : List Item) (rest coefs : List ℕ) (degree at : ℕ) : Type 0 where
-      pub ys : List Item
-      pub fit : All (Fits n) ys
-      pub bytes-left : drop at bytes ≡ bytesOf ys rest
-      pub room : degree +ℕ degrees (factorsOf ys) ≤ degreeLimit
-      pub multiplies : poly n coefs · productOf ys ≡ productOf xs
+  pub multiplying-first : 1 < n → Multiplying (1 ∷ replicate 32 0) 0 0
+  unfolding factorList
+  multiplying-first large = record {
+    array = record { fits = omega arith; reduced = unit n large .reduced; monic = rw (unit n large .is) monic-one };
+    degrees = omega arith;
+    multiplies = ap (λ a. a · productOf n (factorList bytes)) (poly-unit n 32) ∙ 𝓐 n .*-one (productOf n (factorList bytes));
+    left = λ f. f;
+  }
 
-    pub record Multiplying (coefs : List ℕ) (degree at : ℕ) : Type 0 where
-      pub array : MonicArray n degree coefs
-      pub exact : (xs : List Item) (rest : List ℕ) → All (Fits n) xs → degrees (factorsOf xs) ≤ degreeLimit → drop 4 bytes ≡ bytesOf xs rest
-          → Left xs rest coefs degree at
+  module _ {coefs : List ℕ} {degree at : ℕ} (w : Multiplying coefs degree at) where
+    pub product-found : length bytes ≤ at → ProductOf bytes p (record { found = true; degree = degree; coefs = coefs })
+    product-found l = record { sound = λ y. (w .array, is); exact = λ f room. refl }
+      where
+        is : poly n coefs ≡ productOf n (factorList bytes)
+        is =
+            sym (mul-one (𝓐 n) (poly n coefs))
+            ∙ ap (λ a. poly n coefs · a)
+            (sym (ap (λ cs. productOf n (factorsIn cs)) (commands-end bytes at l) ∙ (unfold factorsIn in product-nil (𝓐 n))))
+            ∙ w .multiplies
 
-    pub multiplying-first : 1 < n → Multiplying (1 ∷ replicate 32 0) 0 4
-    multiplying-first large = record {
-      array = one-array large;
-      exact = λ xs rest f l e. record {
-        ys = xs;
-        fit = f;
-        bytes-left = e;
-        room = omega arith;
-        multiplies = ap (λ a. a · productOf xs) (poly-unit n 32) ∙ 𝓐 .*-one (productOf xs);
-      };
-    }
-
-    module _ {coefs : List ℕ} {degree at : ℕ} (w : Multiplying coefs degree at) where
-      -- the totals end the items
-      pub product-found : getD bytes at 0 ≡ 0x13 → ProductOf bytes n (record { found = true; degree = degree; coefs = coefs })
-      product-found e = record {
-        sound = λ z. w .array;
-        exact = λ xs rest f l q. let v = w .exact xs rest f l q in (refl, done xs rest (v .ys) (v .bytes-left) (v .multiplies));
+    module _ (l : at < length bytes) {r : Grown} (h : MultipliedAt bytes at p coefs degree r) where
+      pub given-up : r .found ≡ false → ProductOf bytes p r
+      given-up z = record {
+        sound = not-found z;
+        exact = λ f room. not-found z (h .exact (w .left f) (omega (arith, w .degrees)));
       }
-        where
-          done : (xs : List Item) (rest : List ℕ) (ys : List Item) → drop at bytes ≡ bytesOf ys rest → poly n coefs · productOf ys ≡ productOf xs
-              → poly n coefs ≡ productOf xs
-          done xs rest [] b h = sym (mul-one 𝓐 (poly n coefs)) ∙ ap (λ a. poly n coefs · a) (sym no-items) ∙ h
-          done xs rest (y ∷ ys) b h = absurd (item-byte y ys rest (sym (first-byte bytes at b) ∙ e))
 
-      abbrev pub givenUp : Grown
-      givenUp = record { found = false; degree = degree; coefs = coefs }
-
-      -- no items are written here
-      given-up : ((xs : List Item) (rest : List ℕ) → Left xs rest coefs degree at → ⊥) → ProductOf bytes n givenUp
-      given-up h = record { sound = λ z. absurd (false≢true z); exact = λ xs rest f l q. absurd (h xs rest (w .exact xs rest f l q)) }
-
-      pub bytes-missing : length bytes ≤ at → ProductOf bytes n givenUp
-      bytes-missing l = given-up (λ xs rest v. omega (arith, enough bytes at (v .bytes-left) 1 (omega arith) (bytes-some (v .ys) rest)))
-
-      module _ (e : getD bytes at 0 ≡ 0x13 → ⊥) {x : code.Item} (h : ItemOf bytes at n x) where
-        -- what the first item left says of x
-        pub record Taken (xs : List Item) (rest : List ℕ) : Type 0 where
-          pub found : x .found ≡ true
-          pub room : degree +ℕ x .degree *ℕ x .times ≤ degreeLimit
-          pub left : (r : Grown) → r .degree ≡ degree +ℕ x .degree *ℕ x .times
-              → poly n (r .coefs) ≡ poly n coefs · pow 𝓐 (poly n (x .coefs)) (x .times) → Left xs rest (r .coefs) (r .degree) (x .next)
-
-        taken : {xs : List Item} {rest : List ℕ} → Left xs rest coefs degree at → Taken xs rest
-        taken {xs} {rest} v = go (v .ys) (v .fit) (v .bytes-left) (v .room) (v .multiplies)
-          where
-            go : (ys : List Item) → All (Fits n) ys → drop at bytes ≡ bytesOf ys rest → degree +ℕ degrees (factorsOf ys) ≤ degreeLimit
-                → poly n coefs · productOf ys ≡ productOf xs → Taken xs rest
-            go [] f b l q = absurd (e (unfold flatMap in first-byte bytes at b))
-            go (y ∷ ys) f b l q =
-                let m = h .exact y (bytesOf ys rest) (f y (here refl)) (bytes-other ys rest) (b ∙ bytes-cons y ys rest) in
-                record {
-                  found = m .found;
-                  room = omega (arith, m .weight, degrees-cons y ys);
-                  left = λ r d p. record {
-                    ys = ys;
-                    fit = all-tail f;
-                    bytes-left = m .follows;
-                    room = omega (arith, d, m .weight, degrees-cons y ys);
-                    multiplies = ap (λ a. a · productOf ys) (p ∙ ap (λ a. poly n coefs · a) (m .value))
-                        ∙ 𝓐 .*-assoc (poly n coefs) (productOf (y ∷ [])) (productOf ys) ∙ ap (λ a. poly n coefs · a) (sym (product-items y ys)) ∙ q;
-                  };
-                }
-
-        pub item-missing : x .found ≡ false → ProductOf bytes n givenUp
-        item-missing z = given-up (λ xs rest v. false≢true (sym z ∙ taken v .found))
-
-        module _ {r : Grown} (g : GrownBy n coefs degree (x .coefs) (x .degree) (x .times) r) where
-          pub product-high : r .found ≡ false → ProductOf bytes n givenUp
-          product-high z = given-up (λ xs rest v. false≢true (sym z ∙ g .exact (taken v .room) .0))
-
-          pub multiplying-more : r .found ≡ true → Multiplying (r .coefs) (r .degree) (x .next)
-          multiplying-more z = record {
-            array = g .sound z;
-            exact = λ xs rest f l q. let t = taken (w .exact xs rest f l q) in let (y, d, p) = g .exact (t .room) in t .left r d p;
-          }
+      pub multiplying-more : r .found ≡ true → {k : ℕ} → k ≡ operandCount (getD bytes at 0) → Multiplying (r .coefs) (r .degree) (at +ℕ (1 +ℕ k))
+      multiplying-more y {k} e = let (m, deg, is) = h .sound y in rw e (record {
+        array = m;
+        degrees = deg ∙ w .degrees;
+        multiplies = is ∙ w .multiplies;
+        left = λ f. (rw (commands-step bytes at l) at (w .left f)) .1;
+      })

@@ -2,35 +2,44 @@
 // `find_candidate` is public for the crates above, and no entry point of the library: whoever calls it works out that sheet's answer and compares.
 ghost use mathlib.Core.Path.{_≡_};
 ghost use mathlib.Core.Bool.{false};
-ghost use Prim.Native.Nat.{_<_, _≤_};
-ghost use lib.ListN.{length};
+ghost use Prim.Native.Nat.{_+_, _*_, _<_, _≤_};
+ghost use lib.ListN.{length, getD};
+ghost use Rattle.specification.specs.Commands.{operandCount};
+ghost use Rattle.specification.specs.Coefficients.{coefficientCode, givenValue};
 ghost use Rattle.pieces.specs.ArrayPieces.{MonicArray};
-ghost use Rattle.reading.specs.Found.{CoefficientsOf, FactorOf, ItemOf, GrownBy, ProductOf, CandidateOf};
+ghost use Rattle.reading.specs.Places.{commandAt};
+ghost use Rattle.reading.specs.Found.{FoundAt, CoefficientOf, CoefficientsOf, FactorOf, GrownBy, MultipliedAt, ProductOf, CandidateOf};
+use commands::Sheet;
+use commands::coefficient_code;
+use commands::monomial;
+use commands::operand_count;
 use modular::product;
 use polynomial::Poly;
 use polynomial::square;
 use primes::taken;
-use sheets::monomial;
 
 // What the bytes can belong to, if anything.
 pub struct Candidate {
     pub found: bool,
-    pub prime: u8,
-    pub degree: usize,
-    pub coefs: [u16; 33],
+    pub sheet: Sheet,
 }
 
-// A polynomial with the coefficients written at a place, and the place after them.
+// The coefficient that a command gives, if it fits.
+struct Coefficient {
+    found: bool,
+    index: usize,
+    value: u16,
+}
+
+// A polynomial with the coefficients written at a place.
 struct Coefficients {
     found: bool,
-    next: usize,
     coefs: [u16; 33],
 }
 
-// A factor and its repeats, and the place after it. A part's head counts as the polynomial 1, no times.
-struct Item {
+// A factor and its repeats.
+struct Factor {
     found: bool,
-    next: usize,
     times: usize,
     degree: usize,
     coefs: [u16; 33],
@@ -43,49 +52,98 @@ struct Grown {
     coefs: [u16; 33],
 }
 
-// x to the degree with the coefficients that 0x03 commands give it from a place on.
-fn read_coefficients(answer: &[u8], at: usize, degree: usize, modulus: u16) -> Coefficients
-    requires { ⌜ (1 < modulus) × (degree ≤ 32) ⌝ }
-    ensures { λ r. ⌜ CoefficientsOf (now (answer .entry)) at degree modulus r ⌝ }
+// The place of the first command with a code, or the end.
+fn find(answer: &[u8], code: u8) -> usize
+    ensures { λ r. ⌜ FoundAt (now (answer .entry)) code r ⌝ }
 {
+    let mut at: usize = 0;
+    while at < answer.len() {
+        let here = answer[at];
+        if here == code {
+            return at;
+        }
+        at += 1 + operand_count(here);
+    }
+    answer.len()
+}
+
+// The value that the coefficient's command at a place gives.
+fn value_at(answer: &[u8], at: usize, prime: u8) -> u16
+    requires { ⌜ (getD (now answer) at 0 ≡ coefficientCode prime) × (at + operandCount (coefficientCode prime) < length (now answer)) ⌝ }
+    ensures { λ r. ⌜ r ≡ givenValue (commandAt (now (answer .entry)) at) ⌝ }
+{
+    answer[at + 2] as u16
+}
+
+// No coefficient that an answer has.
+fn no_coefficient() -> Coefficient
+    ensures { λ r. ⌜ r .found ≡ false ⌝ }
+{
+    Coefficient {
+        found: false,
+        index: 0,
+        value: 0,
+    }
+}
+
+// The coefficient that the command at a place gives a polynomial.
+fn read_coefficient(answer: &[u8], at: usize, degree: usize, prime: u8) -> Coefficient
+    requires { ⌜ (getD (now answer) at 0 ≡ coefficientCode prime) × (at < length (now answer)) ⌝ }
+    ensures { λ r. ⌜ CoefficientOf (now (answer .entry)) at degree prime r ⌝ }
+{
+    if answer.len() - at <= operand_count(coefficient_code(prime)) {
+        return no_coefficient();
+    }
+    let index = answer[at + 1] as usize;
+    let value = value_at(answer, at, prime);
+    if degree <= index {
+        return no_coefficient();
+    }
+    if square(prime) <= value {
+        return no_coefficient();
+    }
+    Coefficient {
+        found: true,
+        index: index,
+        value: value,
+    }
+}
+
+// x to the degree with the coefficients that are written from a place on, before any other command.
+fn read_coefficients(answer: &[u8], at: usize, degree: usize, prime: u8) -> Coefficients
+    requires { ⌜ (1 < prime * prime) × (degree ≤ 32) ⌝ }
+    ensures { λ r. ⌜ CoefficientsOf (now (answer .entry)) at degree prime r ⌝ }
+{
+    let code = coefficient_code(prime);
     let mut coefs = monomial(degree);
     let mut next = at;
     while next < answer.len() {
-        if answer[next] != 0x03 {
+        if answer[next] != code {
+            break;
+        }
+        let read = read_coefficient(answer, next, degree, prime);
+        if !read.found {
             return Coefficients {
-                found: true,
-                next: next,
+                found: false,
                 coefs: coefs,
             };
         }
-        if answer.len() - next < 3 {
-            break;
-        }
-        let index = answer[next + 1] as usize;
-        let value = answer[next + 2] as u16;
-        if degree <= index {
-            break;
-        }
-        if modulus <= value {
-            break;
-        }
-        coefs[index] = value;
-        next += 3;
+        let index = read.index;
+        coefs[index] = read.value;
+        next += 1 + operand_count(code);
     }
     Coefficients {
-        found: false,
-        next: next,
+        found: true,
         coefs: coefs,
     }
 }
 
-// Nothing that an answer has.
-fn no_item() -> Item
+// No factor that an answer has.
+fn no_factor() -> Factor
     ensures { λ r. ⌜ r .found ≡ false ⌝ }
 {
-    Item {
+    Factor {
         found: false,
-        next: 0,
         times: 0,
         degree: 0,
         coefs: [0u16; 33],
@@ -93,49 +151,26 @@ fn no_item() -> Item
 }
 
 // The factor at a place, where 0x12 stands.
-fn read_factor(answer: &[u8], at: usize, modulus: u16) -> Item
-    requires { ⌜ (1 < modulus) × (at < length (now answer)) ⌝ }
-    ensures { λ r. ⌜ FactorOf (now (answer .entry)) at modulus r ⌝ }
+fn read_factor(answer: &[u8], at: usize, prime: u8) -> Factor
+    requires { ⌜ (1 < prime * prime) × (getD (now answer) at 0 ≡ 0x12) × (at < length (now answer)) ⌝ }
+    ensures { λ r. ⌜ FactorOf (now (answer .entry)) at prime r ⌝ }
 {
     if answer.len() - at < 3 {
-        return no_item();
+        return no_factor();
     }
     let degree = answer[at + 1] as usize;
     let times = answer[at + 2] as usize;
     if Poly::LIMIT < degree {
-        return no_item();
+        return no_factor();
     }
-    let read = read_coefficients(answer, at + 3, degree, modulus);
+    let read = read_coefficients(answer, at + 3, degree, prime);
     let coefs = read.coefs;
-    Item {
+    Factor {
         found: read.found,
-        next: read.next,
         times: times,
         degree: degree,
         coefs: coefs,
     }
-}
-
-// The factor or the part's head at a place.
-fn read_item(answer: &[u8], at: usize, modulus: u16) -> Item
-    requires { ⌜ (1 < modulus) × (at < length (now answer)) ⌝ }
-    ensures { λ r. ⌜ ItemOf (now (answer .entry)) at modulus r ⌝ }
-{
-    let command = answer[at];
-    if command == 0x11 {
-        let coefs = monomial(0);
-        return Item {
-            found: true,
-            next: at + 4,
-            times: 0,
-            degree: 0,
-            coefs: coefs,
-        };
-    }
-    if command == 0x12 {
-        return read_factor(answer, at, modulus);
-    }
-    no_item()
 }
 
 // a times a power of b, both monic, of degrees d and e.
@@ -166,38 +201,50 @@ fn grow(a: [u16; 33], d: usize, b: [u16; 33], e: usize, times: usize, modulus: u
     }
 }
 
-// The product of the factors from the place 4 on, up to the totals.
-fn multiply(answer: &[u8], modulus: u16) -> Grown
-    requires { ⌜ 1 < modulus ⌝ }
-    ensures { λ r. ⌜ ProductOf (now (answer .entry)) modulus r ⌝ }
+// a of degree d, times what the command at a place lists: a factor's copies, or nothing.
+fn multiply_at(answer: &[u8], at: usize, prime: u8, a: [u16; 33], d: usize) -> Grown
+    requires { ⌜ (1 < prime * prime) × (at < length (now answer)) × MonicArray (prime * prime) d a ⌝ }
+    ensures { λ r. ⌜ MultipliedAt (now (answer .entry)) at prime a d r ⌝ }
+{
+    if answer[at] != 0x12 {
+        return Grown {
+            found: true,
+            degree: d,
+            coefs: a,
+        };
+    }
+    let factor = read_factor(answer, at, prime);
+    if !factor.found {
+        return Grown {
+            found: false,
+            degree: d,
+            coefs: a,
+        };
+    }
+    let coefs = factor.coefs;
+    grow(a, d, coefs, factor.degree, factor.times, square(prime))
+}
+
+// The product of the factors that the bytes list.
+fn multiply(answer: &[u8], prime: u8) -> Grown
+    requires { ⌜ 1 < prime * prime ⌝ }
+    ensures { λ r. ⌜ ProductOf (now (answer .entry)) prime r ⌝ }
 {
     let mut coefs = monomial(0);
     let mut degree: usize = 0;
-    let mut at: usize = 4;
+    let mut at: usize = 0;
     while at < answer.len() {
-        if answer[at] == 0x13 {
-            return Grown {
-                found: true,
-                degree: degree,
-                coefs: coefs,
-            };
-        }
-        let item = read_item(answer, at, modulus);
-        if !item.found {
-            break;
-        }
-        let factor = item.coefs;
-        let grown = grow(coefs, degree, factor, item.degree, item.times, modulus);
+        let grown = multiply_at(answer, at, prime, coefs, degree);
         if !grown.found {
-            break;
+            return grown;
         }
         let v = grown.coefs;
         coefs = v;
         degree = grown.degree;
-        at = item.next;
+        at += 1 + operand_count(answer[at]);
     }
     Grown {
-        found: false,
+        found: true,
         degree: degree,
         coefs: coefs,
     }
@@ -209,9 +256,11 @@ fn no_candidate() -> Candidate
 {
     Candidate {
         found: false,
-        prime: 2,
-        degree: 0,
-        coefs: [0u16; 33],
+        sheet: Sheet {
+            prime: 2,
+            degree: 0,
+            coefs: [0u16; 33],
+        },
     }
 }
 
@@ -219,22 +268,25 @@ fn no_candidate() -> Candidate
 pub fn find_candidate(answer: &[u8]) -> Candidate
     ensures { λ r. ⌜ CandidateOf (now (answer .entry)) r ⌝ }
 {
-    if answer.len() < 2 {
+    let at = find(answer, 0x01);
+    if answer.len() < at + 2 {
         return no_candidate();
     }
-    let prime = answer[1];
+    let prime = answer[at + 1];
     if !taken(prime) {
         return no_candidate();
     }
-    let whole = multiply(answer, square(prime));
+    let whole = multiply(answer, prime);
     if whole.degree == 0 {
         return no_candidate();
     }
     let coefs = whole.coefs;
     Candidate {
         found: whole.found,
-        prime: prime,
-        degree: whole.degree,
-        coefs: coefs,
+        sheet: Sheet {
+            prime: prime,
+            degree: whole.degree,
+            coefs: coefs,
+        },
     }
 }

@@ -1,5 +1,5 @@
 -- What a caller of `read_sheet` learns from the answer's number.
--- Proves that with number 0 the sheet is accepted with the polynomial in the answer's array, which is monic of its degree modulo p²,
+-- Proves that with number 0 the sheet is accepted as the answer's struct has it, a good sheet whose array is monic of its degree modulo p²,
 -- and that any other number is the fault's, with its place and the zero polynomial of prime 2. Assumes nothing.
 use mathlib.Core.Path.{_≡_, refl, sym, _∙_, ap, subst}
 use mathlib.Core.List.{List, [], _++_}
@@ -8,7 +8,7 @@ use native.Mathlib.Omega.{arith}
 use lib.ListN.{length, replicate}
 use lib.Seq.{take-take, take-at}
 use Rattle.specification.specs.Limits.{taken, coefficientCount, refusedPrime}
-use Rattle.specification.specs.Polynomials.{Poly, degree}
+use Rattle.specification.specs.Polynomials.{degree}
 use Rattle.specification.specs.Records.{pad}
 use Rattle.specification.specs.Sheets.{Sheet, sheetOf, Reading, accepted, fault, readSheet}
 use Rattle.specification.specs.Promises.{GoodSheet}
@@ -19,8 +19,9 @@ use Rattle.theorems.specs.SheetsRead.{read-is-good}
 use Rattle.theorems.specs.SheetLength.{fault-number}
 use Rattle.polynomial.specs.RecordLaws.{length-pad, getD-pad, poly-pad}
 use Rattle.factors.specs.Cut.{MonicModSquare}
+use Rattle.commands.specs.Views.{polyIn, asSheet}
 use Rattle.sheets.specs.declared.SheetRead.{SheetRead}
-use Rattle.sheets.specs.Views.{sheetRead, polyIn}
+use Rattle.sheets.specs.Views.{asStruct, sheetRead}
 
 -- ---- a good sheet's polynomial in an array
 
@@ -60,26 +61,31 @@ module _ (s : Sheet) (g : GoodSheet s) where
 -- number 0
 pub record Read (bytes : List ℕ) (r : SheetRead) : Type 0 where
   pub place : r .place ≡ 0
-  pub reading : readSheet bytes ≡ accepted (sheetOf (r .prime) (polyIn (r .degree) (r .coefs)))
-  pub monic : MonicModSquare (r .prime) (r .coefs) (r .degree)
+  pub reading : readSheet bytes ≡ accepted (asSheet (r .sheet))
+  pub good : GoodSheet (asSheet (r .sheet))
+  pub monic : MonicModSquare (r .sheet .prime) (r .sheet .coefs) (r .sheet .degree)
 
 -- another number: "the zero polynomial of prime 2"
 pub record Refused (bytes : List ℕ) (r : SheetRead) : Type 0 where
   pub reading : readSheet bytes ≡ fault (r .number) (r .place)
-  pub prime : r .prime ≡ refusedPrime
-  pub degree : r .degree ≡ 0
-  pub coefs : r .coefs ≡ pad []
+  pub prime : r .sheet .prime ≡ refusedPrime
+  pub degree : r .sheet .degree ≡ 0
+  pub coefs : r .sheet .coefs ≡ pad []
 
 module _ (bytes : List ℕ) where
   answered : (reading : Reading) → readSheet bytes ≡ reading → (sheetRead reading) .number ≡ 0 → Read bytes (sheetRead reading)
   answered (accepted s) e z = record {
     place = refl;
-    reading = e ∙ ap (λ (f : Poly). accepted (sheetOf (s .prime) f)) (sym (good-in s good));
+    reading = e ∙ ap accepted (sym back);
+    good = subst GoodSheet (sym back) good;
     monic = good-monic s good;
   }
     where
       good : GoodSheet s
       good = read-is-good bytes s e
+
+      back : asSheet (asStruct s) ≡ s
+      back = ap (sheetOf (s .prime)) (good-in s good)
   answered (fault k at) e z = absurd (omega (arith, fault-number bytes k at e))
 
   refused : (reading : Reading) → readSheet bytes ≡ reading → ((sheetRead reading) .number ≡ 0 → ⊥) → Refused bytes (sheetRead reading)

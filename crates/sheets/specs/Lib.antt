@@ -1,6 +1,5 @@
 pub mod Views
-pub mod Transitions
 pub mod Steps
-pub mod HeldArrays
 pub mod Underway
+pub mod Stages
 pub mod Laws

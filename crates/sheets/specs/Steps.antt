@@ -1,108 +1,146 @@
--- The reader's steps: what each says of the specification's reading, which goes on with the byte taken or ends with the fault.
--- Proves this of a step from the byte at its place. Assumes nothing.
-use mathlib.Core.Path.{_≡_, sym, _∙_, ap, ap₂, subst}
-use mathlib.Core.List.{List}
-use Prim.Native.Nat.{ℕ, suc, _+_, _*_, _<_, _≤_}
+-- The reader's steps: `StepOf reader limit part start at s`, the step s is what the specification's reader gives at a place of a part of the sheet.
+-- Proves it of a byte, of a judged value and of a command with its operand, what it means that a command comes next, and how a reading goes on after a step.
+-- Assumes nothing.
+use mathlib.Core.Path.{_≡_, refl, sym, _∙_, ap, ap₂, subst}
+use mathlib.Core.Bool.{Bool, true, false, false≢true}
+use mathlib.Core.List.{List, _∷_}
+use Prim.Native.Nat.{ℕ, suc, _+_, _<_, _≤_}
 use native.Mathlib.Omega.{arith}
-use lib.ListN.{length, getD}
-use Rattle.specification.specs.Limits.{degreeLimit}
-use Rattle.specification.specs.Polynomials as spec
-use Rattle.specification.specs.Sheets.{
-  Sheet,
-  sheetOf,
-  withCoefficient,
-  Due,
-  degreeCommand,
-  command,
-  indexOperand,
-  valueOperand,
-  next,
-  wrong,
-  step,
-  Reading,
-  fault,
-  atEnd,
-  readSheet,
-}
+use lib.ListN.{length, getD, drop, drop-of-length-le}
+use lib.Seq.{drop-cons}
+use lib.Dec.{T, eqb}
+use borrow.Author.Tests.{eqb-true, eqb-false}
+use Rattle.specification.specs.Reading.{Read, got, stop, Reader, goOn, _>>=_, judged, byte, commandByte, withOperand}
+use Rattle.algebra.specs.Tests.{passes, fails}
+use Rattle.theorems.specs.ReaderLaws.{Other, then-goes, then-stops}
 use Rattle.sheets.specs.declared.Step.{Step}
 use Rattle.sheets.specs.declared.Step.the-variants.{Taken, Fault}
-use Rattle.theorems.specs.SheetSteps.{afterCommand}
-use Rattle.sheets.specs.Transitions.{readPart, reads-on, reads-wrong, reads-end}
 
 -- ---- what a step says
 
--- the byte at a place of a part of the sheet, or number 2
-pub record ByteAt (part : List ℕ) (start at : ℕ) (r : Step) : Type 0 where
-  pub taken : (b : ℕ) → r ≡ Taken b → (at < length part) × (getD part at 0 ≡ b)
-  pub ends : (k place : ℕ) → r ≡ Fault k place → (length part ≤ at) × (k ≡ 2) × (place ≡ start + at)
+-- a reader at a place of a part that begins at the sheet's place `start`
+abbrev pub readAt : {A : Type 0} → Reader A → List ℕ → ℕ → ℕ → Read A
+readAt r part start at = r (start + at) (drop at part)
 
--- the reading goes on with the byte taken, of which `Fact` holds, or ends with the fault
-pub record Leads (Fact : ℕ → Type 0) (reading : Reading) (after : ℕ → Reading) (r : Step) : Type 0 where
-  pub taken : (b : ℕ) → r ≡ Taken b → Fact b × (reading ≡ after b)
-  pub ends : (k place : ℕ) → r ≡ Fault k place → reading ≡ fault k place
+-- a step as a reading, where a number that is taken means `meant` of it
+abbrev pub asRead : {A : Type 0} → (ℕ → A) → List ℕ → ℕ → Step → Read A
+asRead meant part start (Taken v next) = got (meant v) (start + next) (drop next part)
+asRead meant part start (Fault k place) = stop k place
 
--- the prime is read, and the degree's command is due
-abbrev pub PrimeRead : List ℕ → Step → Type 0
-PrimeRead sheet = Leads (λ p. 2 ≤ length sheet) (readSheet sheet) (λ p. readPart 0 (degreeCommand p) sheet 2)
+-- a number that is taken is below a limit, and the place after it is in the part
+pub record Inside (limit : ℕ) (part : List ℕ) (at v next : ℕ) : Type 0 where
+  pub low : v < limit
+  pub on : at ≤ next
+  pub reach : next ≤ length part
 
--- the degree is read, and a coefficient command or the end is due
-abbrev pub DegreeRead : List ℕ → Step → Type 0
-DegreeRead sheet r =
-    (p : ℕ) → Leads (λ n. (n ≤ degreeLimit) × (4 ≤ length sheet)) (readPart 0 (degreeCommand p) sheet 2)
-    (λ n. readPart 0 (command (sheetOf p (spec.monomial n)) 0) sheet 4) r
+abbrev pub StepInside : ℕ → List ℕ → ℕ → Step → Type 0
+StepInside limit part at (Taken v next) = Inside limit part at v next
+StepInside limit part at (Fault k place) = Unit {0}
 
--- in the part that begins at the sheet's place 4: a coefficient command, or the end
-abbrev pub CommandRead : List ℕ → ℕ → Step → Type 0
-CommandRead part at r =
-    (s : Sheet) (least : ℕ) → Leads (λ b. at < length part) (readPart 4 (command s least) part at) (λ b. readPart 4 (afterCommand s least b) part (at + 1)) r
+-- the step is what the reader gives at the place
+pub record StepAs {A : Type 0} (meant : ℕ → A) (r : Reader A) (limit : ℕ) (part : List ℕ) (start at : ℕ) (s : Step) : Type 0 where
+  pub same : readAt r part start at ≡ asRead meant part start s
+  pub inside : StepInside limit part at s
 
--- an index for a sheet of this degree
-abbrev pub IndexRead : List ℕ → ℕ → ℕ → ℕ → Step → Type 0
-IndexRead part at least degree r =
-    (s : Sheet) → spec.degree (s .poly) ≡ degree
-    → Leads (λ i. (at < length part) × (i < degree)) (readPart 4 (indexOperand s least) part at) (λ i. readPart 4 (valueOperand s i) part (at + 1)) r
+-- of a reader of numbers
+abbrev pub StepOf : Reader ℕ → ℕ → List ℕ → ℕ → ℕ → Step → Type 0
+StepOf = StepAs (λ v. v)
 
--- a value for a sheet of this modulus
-abbrev pub ValueRead : List ℕ → ℕ → ℕ → Step → Type 0
-ValueRead part at modulus r =
-    (s : Sheet) (i : ℕ) → s .prime * s .prime ≡ modulus
-    → Leads (λ v. at < length part) (readPart 4 (valueOperand s i) part at) (λ v. readPart 4 (command (withCoefficient s i v) (suc i)) part (at + 1)) r
+module _ {A : Type 0} {meant : ℕ → A} {r : Reader A} {limit : ℕ} {part : List ℕ} {start at : ℕ} {s : Step} (w : StepAs meant r limit part start at s) where
+  pub step-inside : {v next : ℕ} → s ≡ Taken v next → Inside limit part at v next
+  step-inside e = subst (StepInside limit part at) e (w .inside)
 
--- ---- that it says so
+  pub step-got : {v next : ℕ} → s ≡ Taken v next → readAt r part start at ≡ got (meant v) (start + next) (drop next part)
+  step-got e = w .same ∙ ap (asRead meant part start) e
 
-pub byte-taken : {part : List ℕ} {start at : ℕ} → at < length part → ByteAt part start at (Taken (getD part at 0))
-byte-taken l = record { taken = λ c q. (l, cc); ends = λ k place q. absurd (let z : _≡_ {A = ℕ} 0 1 = cc in omega arith) }
+  step-stops : {k place : ℕ} → s ≡ Fault k place → readAt r part start at ≡ stop k place
+  step-stops e = w .same ∙ ap (asRead meant part start) e
 
-pub byte-missing : {part : List ℕ} {start at : ℕ} → length part ≤ at → ByteAt part start at (Fault 2 (start + at))
-byte-missing l = record { taken = λ c q. absurd (let z : _≡_ {A = ℕ} 0 1 = cc in omega arith); ends = λ k place q. (l, (cc), (cc)) }
+-- a fault is a step of whatever reader stops there
+pub step-fault : {A : Type 0} {meant : ℕ → A} {r : Reader A} {limit : ℕ} {part : List ℕ} {start at : ℕ} {s : Step} {k place : ℕ} → s ≡ Fault k place
+    → readAt r part start at ≡ stop k place → StepAs meant r limit part start at s
+step-fault {meant = meant} {r = r} {limit = limit} {part = part} {start = start} {at = at} e h =
+    subst (StepAs meant r limit part start at) (sym e) (record { same = h; inside = tt })
 
--- the byte b is there
-module _ {part : List ℕ} {start at b : ℕ} {r : Step} (w : ByteAt part start at r) (e : r ≡ Taken b) where
-  pub there : at < length part
-  there = w .taken b e .0
+-- ---- how a reading goes on
 
-  pub goes-on : (due due′ : Due) → step due b ≡ next due′ → readPart start due part at ≡ readPart start due′ part (at + 1)
-  goes-on due due′ h = reads-on start due part at b there (w .taken b e .1) due′ h
+-- the reading goes on at a place of the part as the reader `rest` does there
+pub record Left {B : Type 0} (reading : Read B) (part : List ℕ) (start : ℕ) (rest : Reader B) (at : ℕ) : Type 0 where
+  pub reach : at ≤ length part
+  pub same : reading ≡ readAt rest part start at
 
-  pub goes-wrong : (due : Due) (k : ℕ) → step due b ≡ wrong k → readPart start due part at ≡ fault k (start + at)
-  goes-wrong due k h = reads-wrong start due part at b there (w .taken b e .1) k h
+module _ {A B : Type 0} (f : A → Reader B) {reading : Read B} {part : List ℕ} {start at limit : ℕ} {meant : ℕ → A} {r : Reader A} {s : Step}
+    (l : Left reading part start (_>>=_ r f) at) (w : StepAs meant r limit part start at s) where
+  pub left-more : {v next : ℕ} → s ≡ Taken v next → Left reading part start (f (meant v)) next
+  left-more e = record { reach = step-inside w e .reach; same = l .same ∙ then-goes r f (step-got w e) }
 
-module _ {Fact : ℕ → Type 0} {reading : Reading} {after : ℕ → Reading} {r : Step} where
-  pub leads-taken : {b : ℕ} → r ≡ Taken b → Fact b → reading ≡ after b → Leads Fact reading after r
-  leads-taken {b} e f h = record {
-    taken = λ c q. let s : b ≡ c = cc in (subst Fact s f, h ∙ ap after s);
-    ends = λ k place q. absurd (let z : _≡_ {A = ℕ} 0 1 = cc in omega arith);
+  pub left-stops : {k place : ℕ} → s ≡ Fault k place → reading ≡ stop k place
+  left-stops e = l .same ∙ then-stops r f (step-stops w e)
+
+-- ---- a byte
+
+module _ {part : List ℕ} {start at : ℕ} where
+  pub byte-taken : at < length part → getD part at 0 < 256 → StepOf byte 256 part start at (Taken (getD part at 0) (at + 1))
+  unfolding byte
+  byte-taken l small = record {
+    same = rw (drop-cons part at 0 l)
+        (ap₂ (λ (x y : ℕ). got (getD part at 0) x (drop y part))
+        (let q : suc (start + at) ≡ start + (at + 1) = omega arith in q) (let q : suc at ≡ at + 1 = omega arith in q));
+    inside = record { low = small; on = omega arith; reach = omega arith };
   }
 
-  pub leads-fault : {k place : ℕ} → r ≡ Fault k place → reading ≡ fault k place → Leads Fact reading after r
-  leads-fault {k} {place} e h = record {
-    taken = λ c q. absurd (let z : _≡_ {A = ℕ} 0 1 = cc in omega arith);
-    ends = λ l at q. h ∙ ap₂ fault (let s : k ≡ l = cc in s) (let s : place ≡ at = cc in s);
+  pub byte-missing : length part ≤ at → StepOf byte 256 part start at (Fault 2 (start + at))
+  unfolding byte
+  byte-missing l = record { same = rw (drop-of-length-le part {i = at} l) refl; inside = tt }
+
+-- ---- whether a command comes next
+
+pub record Comes (code : ℕ) (part : List ℕ) (at : ℕ) (r : Bool) : Type 0 where
+  pub there : r ≡ true → (at < length part) × (drop at part ≡ code ∷ drop (at + 1) part)
+  pub other : r ≡ false → Other code (drop at part)
+
+module _ (code : ℕ) {part : List ℕ} {at : ℕ} where
+  pub comes-byte : at < length part → Comes code part at (eqb (getD part at 0) code)
+  comes-byte l = record {
+    there = λ e.
+        (l, drop-cons part at 0 l ∙ ap₂ (λ (b k : ℕ). b ∷ drop k part) (eqb-true _ _ e) (let q : suc at ≡ at + 1 = omega arith in q));
+    other = λ e. rw (drop-cons part at 0 l) (eqb-false _ _ e);
   }
 
-  -- the sheet ends where a byte is due
-  pub leads-end : {part : List ℕ} {start at k place : ℕ} (due : Due) → ByteAt part start at r → r ≡ Fault k place
-      → atEnd due (start + at) ≡ fault 2 (start + at) → reading ≡ readPart start due part at → Leads Fact reading after r
-  leads-end {part} {start} {at} {k} {place} due w e q h =
-      let (l, m, n) = w .ends k place e in
-      leads-fault e (h ∙ reads-end start due part at l ∙ q ∙ ap₂ fault (sym m) (sym n))
+  pub comes-none : length part ≤ at → Comes code part at false
+  comes-none l = record { there = λ e. absurd (false≢true e); other = λ e. rw (drop-of-length-le part {i = at} l) tt }
+
+-- ---- a judged value
+
+module _ {r : Reader ℕ} {limit : ℕ} {part : List ℕ} {start at : ℕ} {s : Step} (w : StepOf r limit part start at s) (k : ℕ) (good : ℕ → Bool) where
+  -- it is good, and below another limit
+  pub judged-taken : {v next lower : ℕ} → s ≡ Taken v next → v < lower → T (good v) → StepOf (judged k good r) lower part start at (Taken v next)
+  unfolding judged goOn
+  judged-taken e l t = record {
+    same = rw (step-got w e, passes (good _) t) refl;
+    inside = record { low = l; on = step-inside w e .on; reach = step-inside w e .reach };
+  }
+
+  pub judged-wrong : {v next lower place : ℕ} → s ≡ Taken v next → (T (good v) → ⊥) → place ≡ start + at
+      → StepOf (judged k good r) lower part start at (Fault k place)
+  unfolding judged goOn
+  judged-wrong e t p = record { same = rw (step-got w e, fails (good _) t) (ap (stop k) (sym p)); inside = tt }
+
+  pub judged-ends : {j place lower : ℕ} → s ≡ Fault j place → StepOf (judged k good r) lower part start at s
+  unfolding judged goOn
+  judged-ends e = step-fault e (rw (step-stops w e) refl)
+
+-- ---- a command with its operand
+
+module _ (code : ℕ) {limit : ℕ} (r : Reader ℕ) {part : List ℕ} {start at : ℕ} {s : Step} (w : StepOf (commandByte code) 256 part start at s) where
+  pub with-command-ends : {k place : ℕ} → s ≡ Fault k place → StepOf (withOperand code r) limit part start at s
+  unfolding withOperand
+  with-command-ends e = step-fault e (then-stops (commandByte code) (λ c. r) (step-stops w e))
+
+  pub with-operand : {v next : ℕ} → s ≡ Taken v next → {t : Step} → StepOf r limit part start next t → StepOf (withOperand code r) limit part start at t
+  unfolding withOperand
+  with-operand {v} {next} e {t} h = record { same = then-goes (commandByte code) (λ c. r) (step-got w e) ∙ h .same; inside = from t (h .inside) }
+    where
+      from : (t : Step) → StepInside limit part next t → StepInside limit part at t
+      from (Taken u end) i = record { low = i .low; on = omega (arith, i .on, step-inside w e .on); reach = i .reach }
+      from (Fault k place) i = tt

@@ -1,99 +1,152 @@
--- The coefficient reader's loop: `Underway`, what is read of the part past the degree before a coefficient command.
--- Proves how the loop begins, what is due after each step of a turn, and that a turn with no fault leads to the next.
--- Assumes nothing.
-use mathlib.Core.Path.{_≡_, sym, _∙_, ap, ap₂}
-use mathlib.Core.List.{List}
-use Prim.Native.Nat.{ℕ, _+_, _*_, _≤_, _<_, zero-le}
+-- The coefficient reader's loop: `Underway`, what is read of the part before a place where a coefficient command may come.
+-- Proves how the loop begins, what is due after each step of a turn, and that a turn with no fault leads to the next. Assumes nothing.
+use mathlib.Core.Path.{_≡_, sym, _∙_, ap, ap₂, subst}
+use mathlib.Core.Bool.{Bool, true, false}
+use mathlib.Core.List.{List, _∷_}
+use Prim.Native.Nat.{ℕ, zero, suc, _+_, _*_, _≤_, _<_, zero-le}
 use native.Mathlib.Numerals.{add-one}
 use native.Mathlib.Omega.{arith}
-use borrow.Author.Tests.{eq-eqb, ne-eqb}
-use lib.ListN.{length, set}
+use lib.ListN.{set, drop}
 use Rattle.specification.specs.Limits.{degreeLimit}
-use Rattle.specification.specs.Polynomials.{Poly, monomial}
-use Rattle.specification.specs.Sheets.{Sheet, sheetOf, command, indexOperand, valueOperand, nothingMore, Reading, fault}
-use Rattle.sheets.specs.declared.SheetRead.{SheetRead}
+use Rattle.specification.specs.Polynomials.{Poly, degree, monomial}
+use Rattle.specification.specs.Reading.{Read, Reader, _>>=_, commandByte}
+use Rattle.specification.specs.Coefficients.{coefficientCode, indexOperand, valueOperand, coefficients}
+use Rattle.theorems.specs.ReaderLaws.{then-goes, next-goes, command-goes, Other}
+use Rattle.theorems.specs.CoefficientsRead.{none-left}
+use Rattle.theorems.specs.Operands.{index-within, index-exact}
+use Rattle.commands.specs.Views.{polyIn}
+use Rattle.commands.specs.HeldArrays.{Held, zeros, degree-in, held-set, poly-set, held-first, poly-first}
+use Rattle.sheets.specs.declared.Coefficients.{Coefficients}
 use Rattle.sheets.specs.declared.Step.{Step}
 use Rattle.sheets.specs.declared.Step.the-variants.{Taken, Fault}
-use Rattle.sheets.specs.Views.{sheetRead, refusal, polyIn, Held}
-use Rattle.theorems.specs.SheetSteps.{afterCommand}
-use Rattle.sheets.specs.Transitions.{readPart}
-use Rattle.sheets.specs.Steps.{CommandRead, IndexRead, ValueRead}
-use Rattle.sheets.specs.HeldArrays.{zeros, degree-in, held-set, poly-set, held-first, poly-first}
+use Rattle.sheets.specs.Steps.{readAt, StepAs, StepOf, Comes, step-got, step-fault, Left, left-more, left-stops}
 
--- the answer is that of a reading which goes on as another
-pub read-is : {r : SheetRead} {reading other : Reading} → r ≡ sheetRead other → reading ≡ other → r ≡ sheetRead reading
-read-is e h = e ∙ ap sheetRead (sym h)
+-- the coefficients of a sheet with the prime p and the degree d
+abbrev pub allCoefficients : ℕ → ℕ → Reader Poly
+allCoefficients p d = coefficients (suc d) p 0 (monomial d)
 
--- a step's fault is the reading's
-pub refused-is : {r : SheetRead} {s : Step} {reading : Reading} {k place : ℕ} → r ≡ refusal s → s ≡ Fault k place → reading ≡ fault k place
-    → r ≡ sheetRead reading
-refused-is e q h = read-is (e ∙ ap refusal q) h
+-- what the coefficient reader gives: the polynomial in the array, or the fault
+pub record CoefficientsOf (part : List ℕ) (start p d : ℕ) (r : Coefficients) : Type 0 where
+  pub held : Held d (r .coefs)
+  pub step : StepAs (λ v. polyIn d (r .coefs)) (allCoefficients p d) 1 part start 0 (r .step)
 
-module _ (part : List ℕ) (p d : ℕ) where
-  -- the whole part, with the polynomial as the degree left it
-  abbrev pub whole : Reading
-  whole = readPart 4 (command (sheetOf p (monomial d)) 0) part 0
+-- what follows a coefficient's value, and its index
+abbrev afterValue : ℕ → ℕ → List ℕ → ℕ → ℕ → ℕ → Reader Poly
+afterValue p d coefs room i v = coefficients room p (suc i) (set (polyIn d coefs) i v)
 
-  -- a coefficient command is due at a place, with the polynomial in the array
-  pub record Underway (coefs : List ℕ) (least at : ℕ) : Type 0 where
-    pub reach : at ≤ length part
+abbrev afterIndex : ℕ → ℕ → List ℕ → ℕ → ℕ → Reader Poly
+afterIndex p d coefs room i = _>>=_ (valueOperand p) (afterValue p d coefs room i)
+
+module _ (part : List ℕ) (start p d : ℕ) where
+  -- the reading of the whole part, with the polynomial as the degree left it
+  abbrev reading : Read Poly
+  reading = readAt (allCoefficients p d) part start 0
+
+  -- at a place `rest` is due, with the polynomial in the array and room for the indices from `least` on
+  pub record Due (rest : ℕ → Reader Poly) (coefs : List ℕ) (least at : ℕ) : Type 0 where
     pub held : Held d coefs
-    pub same : whole ≡ readPart 4 (command (sheetOf p (polyIn d coefs)) least) part at
+    pub room : ℕ
+    pub enough : d < suc room + least
+    pub left : Left reading part start (rest room) at
+
+  -- a coefficient command may come
+  abbrev pub Underway : List ℕ → ℕ → ℕ → Type 0
+  Underway coefs least = Due (λ room. coefficients (suc room) p least (polyIn d coefs)) coefs least
+
+  abbrev pub IndexDue : List ℕ → ℕ → ℕ → Type 0
+  IndexDue coefs least = Due (λ room. _>>=_ (indexOperand d least) (afterIndex p d coefs room)) coefs least
+
+  abbrev pub ValueDue : List ℕ → ℕ → ℕ → Type 0
+  ValueDue coefs i = Due (λ room. afterIndex p d coefs room i) coefs i
 
   pub underway-first : d ≤ degreeLimit → Underway (set zeros d 1) 0 0
   underway-first l = record {
-    reach = zero-le;
     held = held-first d l;
-    same = ap (λ (f : Poly). readPart 4 (command (sheetOf p f) 0) part 0) (sym (poly-first d l));
+    room = d;
+    enough = omega arith;
+    left = record { reach = zero-le; same = ap (λ (f : Poly). readAt (coefficients (suc d) p 0 f) part start 0) (sym (poly-first d l)) };
   }
 
-  module _ {coefs : List ℕ} {least at : ℕ} (w : Underway coefs least at) where
-    abbrev s : Sheet
-    s = sheetOf p (polyIn d coefs)
+module _ {part : List ℕ} {start p d : ℕ} {coefs : List ℕ} {least at : ℕ} where
+  -- whether a coefficient command comes
+  module _ (w : Underway part start p d coefs least at) {code : ℕ} {r : Bool} (next : Comes code part at r) (is : code ≡ coefficientCode p) where
+    pub coefficients-end : r ≡ false → CoefficientsOf part start p d (record { step = Taken 0 at; coefs = coefs })
+    coefficients-end e = record {
+      held = w .held;
+      step = record {
+        same = w .left .same ∙ none-left p (polyIn d coefs) (w .room) least (start + at) (drop at part) other;
+        inside = record { low = omega arith; on = zero-le; reach = w .left .reach };
+      };
+    }
+      where
+        other : Other (coefficientCode p) (drop at part)
+        other = subst (λ (k : ℕ). Other k (drop at part)) is (next .other e)
 
-    pub command-fault : {r : Step} {k place : ℕ} → CommandRead part at r → r ≡ Fault k place → whole ≡ fault k place
-    command-fault f e = w .same ∙ f s least .ends _ _ e
+    pub index-due : r ≡ true → IndexDue part start p d coefs least (at + 1)
+    index-due e = record {
+      held = w .held;
+      room = w .room;
+      enough = w .enough;
+      left = record {
+        reach = omega (arith, next .there e .0);
+        same = w .left .same
+            ∙ ap (readFrom (start + at)) (next .there e .1 ∙ ap (λ (k : ℕ). k ∷ rest) is) ∙ goes ∙ ap₂ after (degree-in (w .held)) (omega arith);
+      };
+    }
+      where
+        rest : List ℕ
+        rest = drop (at + 1) part
 
-    module _ {first : Step} {b : ℕ} (f : CommandRead part at first) (e : first ≡ Taken b) where
-      pub after-command : at < length part
-      after-command = f s least .taken b e .0
+        readFrom : Reader Poly
+        readFrom = coefficients (suc (w .room)) p least (polyIn d coefs)
 
-      goes : whole ≡ readPart 4 (afterCommand s least b) part (at + 1)
-      goes = w .same ∙ f s least .taken b e .1
+        after : ℕ → ℕ → Read Poly
+        after e place = (_>>=_ (indexOperand e least) (afterIndex p d coefs (w .room))) place rest
 
-      pub end-read : (b ≡ 0x03 → ⊥) → whole ≡ readPart 4 (nothingMore s) part (at + 1)
-      end-read h = rw (ne-eqb b 0x03 h) at goes
+        goes : readFrom (start + at) (coefficientCode p ∷ rest) ≡ after (degree (polyIn d coefs)) (suc (start + at))
+        goes =
+            unfold coefficients in
+            next-goes (coefficientCode p) _ _ (start + at) rest
+            ∙ then-goes (commandByte (coefficientCode p)) _ (command-goes (coefficientCode p) (start + at) rest)
 
-      module _ (three : b ≡ 0x03) where
-        index-due : whole ≡ readPart 4 (indexOperand s least) part (at + 1)
-        index-due = rw (eq-eqb b 0x03 three) at goes
+  module _ {s : Step} where
+    pub index-fault : {k place : ℕ} → IndexDue part start p d coefs least at → StepOf (indexOperand d least) d part start at s → s ≡ Fault k place
+        → CoefficientsOf part start p d (record { step = s; coefs = coefs })
+    index-fault w g e = record { held = w .held; step = step-fault e (left-stops (afterIndex p d coefs (w .room)) (w .left) g e) }
 
-        module _ {second : Step} (g : IndexRead part (at + 1) least d second) where
-          pub index-fault : {k place : ℕ} → second ≡ Fault k place → whole ≡ fault k place
-          index-fault q = index-due ∙ g s (degree-in (w .held)) .ends _ _ q
+    pub value-fault : {k place : ℕ} → ValueDue part start p d coefs least at → StepOf (valueOperand p) (p * p) part start at s → s ≡ Fault k place
+        → CoefficientsOf part start p d (record { step = s; coefs = coefs })
+    value-fault w g e = record { held = w .held; step = step-fault e (left-stops (afterValue p d coefs (w .room) least) (w .left) g e) }
 
-          module _ {i : ℕ} (q : second ≡ Taken i) where
-            pub after-index : (at + 1 < length part) × (i < d)
-            after-index = g s (degree-in (w .held)) .taken i q .0
+    pub value-due : {i next : ℕ} → IndexDue part start p d coefs least at → StepOf (indexOperand d least) d part start at s → s ≡ Taken i next
+        → ValueDue part start p d coefs i next
+    value-due {i} {next} w g e = record {
+      held = w .held;
+      room = w .room;
+      enough = omega (arith, w .enough, risen);
+      left = left-more (afterIndex p d coefs (w .room)) (w .left) g e;
+    }
+      where
+        risen : least ≤ i
+        risen =
+            let (t, q) = rw (step-got g e) at (index-exact d least .sound (start + at) (drop at part)) in
+            index-within d least i t .1
 
-            value-due : whole ≡ readPart 4 (valueOperand s i) part (at + 2)
-            value-due =
-                index-due ∙ g s (degree-in (w .held)) .taken i q .1
-                ∙ ap (readPart 4 (valueOperand s i) part) (let m : at + 1 + 1 ≡ at + 2 = omega arith in m)
-
-            module _ {third : Step} {n : ℕ} (square : p * p ≡ n) (h : ValueRead part (at + 2) n third) where
-              pub value-fault : {k place : ℕ} → third ≡ Fault k place → whole ≡ fault k place
-              value-fault u = value-due ∙ h s i square .ends _ _ u
-
-              pub underway-more : {v : ℕ} → third ≡ Taken v → Underway (set coefs i v) (i + 1) (at + 3)
-              underway-more {v} u =
-                  let (l, m) = h s i square .taken v u in
-                  let low : i ≤ d = omega (arith, after-index) in
-                  record {
-                    reach = omega (arith, l);
-                    held = held-set (w .held) i v low;
-                    same = value-due ∙ m
-                        ∙ ap₂ (λ (t : Poly) (k : ℕ). readPart 4 (command (sheetOf p t) k) part (at + 2 + 1))
-                        (sym (poly-set (w .held) i v low)) (sym (add-one i))
-                        ∙ ap (readPart 4 (command (sheetOf p (polyIn d (set coefs i v))) (i + 1)) part) (omega arith);
-                  }
+    pub underway-more : {v next : ℕ} → ValueDue part start p d coefs least at → least < d → StepOf (valueOperand p) (p * p) part start at s → s ≡ Taken v next
+        → Underway part start p d (set coefs least v) (least + 1) next
+    underway-more {v} {next} w l g e = more (w .room) (w .enough) (left-more (afterValue p d coefs (w .room) least) (w .left) g e)
+      where
+        more : (room : ℕ) → d < suc room + least → Left (reading part start p d) part start (afterValue p d coefs room least v) next
+            → Underway part start p d (set coefs least v) (least + 1) next
+        more zero m q = absurd (omega arith)
+        more (suc room) m q = record {
+          held = held-set (w .held) least v (omega arith);
+          room = room;
+          enough = omega arith;
+          left = record {
+            reach = q .reach;
+            same = q .same
+                ∙ ap₂ (λ (k : ℕ) (f : Poly). readAt (coefficients (suc room) p k f) part start next)
+                (sym (add-one least)) (sym (poly-set (w .held) least v (omega arith)));
+          };
+        }

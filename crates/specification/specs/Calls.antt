@@ -3,11 +3,12 @@
 use Prim.Native.Nat.{ℕ, _*_}
 use mathlib.Core.Bool.{Bool, false, cond}
 use mathlib.Core.List.{List, [], _++_}
-use lib.ListN.{length, getD, drop}
+use lib.ListN.{length, drop}
 use lib.Dec.{ltb}
 use Rattle.specification.specs.Lists.{same}
 use Rattle.specification.specs.Limits.{answerArea}
 use Rattle.specification.specs.Polynomials.{product}
+use Rattle.specification.specs.Commands.{operand, commands, firstWith}
 use Rattle.specification.specs.Sheets.{sheetOf, Reading, accepted, fault, readSheet, sheetBytes}
 use Rattle.specification.specs.Answers.{answer}
 use Rattle.specification.specs.FactorList.{factorList}
@@ -54,7 +55,7 @@ splitCall area bytes = within area (answerTo (readSheet bytes))
 -- the only sheet that bytes can answer: their prime, and the product of their list
 unfoldable pub sheetIn : List ℕ → List ℕ
 sheetIn bytes =
-    let p : ℕ = getD bytes 1 0 in
+    let p : ℕ = operand (firstWith 0x01 (commands bytes)) 0 in
     sheetBytes (sheetOf p (product (p * p) (factorList bytes)))
 
 -- the bytes are "the answer to" an accepted sheet

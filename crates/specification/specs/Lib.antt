@@ -8,6 +8,9 @@ pub mod Powers
 pub mod Parts
 pub mod RecordParts
 pub mod Totals
+pub mod Commands
+pub mod Reading
+pub mod Coefficients
 pub mod Sheets
 pub mod Answers
 pub mod FactorList

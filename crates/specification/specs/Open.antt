@@ -11,9 +11,12 @@ use Rattle.specification.specs.Records.{constant, sum, difference, produ
 use Rattle.specification.specs.Powers.{polynomials, monics, monicsTo, highest, listed, powersAmong, powers, lifts, primary}
 use Rattle.specification.specs.Parts.{hBar, m1, w, u, splitting, partsOf}
 use Rattle.specification.specs.Totals.{members, listOf, different, freeDigits}
-use Rattle.specification.specs.Sheets.{step, atEnd, readFrom, readSheet, coefficientBytes, sheetBytes}
-use Rattle.specification.specs.Answers.{factorBytes, partBytes, totalBytes, endBytes, answer}
-use Rattle.specification.specs.FactorList.{operandCount, commandsAfter, withCoefficients, factorsIn, totalIn, factorList, factorTotal, differentTotal}
+use Rattle.specification.specs.Commands.{bytesOf, operandCount, commandsAfter, firstWith}
+use Rattle.specification.specs.Reading.{done, goOn, _>>=_, judged, onNext, byte, commandByte, withOperand, flag}
+use Rattle.specification.specs.Coefficients.{coefficientCommands, coefficients}
+use Rattle.specification.specs.Sheets.{sheet, whole, readSheet, headCommands, lastCommands, sheetCommands, sheetBytes}
+use Rattle.specification.specs.Answers.{factorCommands, partCommands, endCommands, answerCommands, answer}
+use Rattle.specification.specs.FactorList.{withCoefficients, factorsIn, factorList, factorTotal, differentTotal}
 use Rattle.specification.specs.Calls.{answerTo, splitCall, sheetIn, isAnswerTo, readCall}
 use Rattle.specification.specs.Text.{lastDigits, decimal, headText, coefficientText, factorText, partText, totalText, partsText, answerText}
 use Rattle.specification.specs.Text.{refusalText, printed}
@@ -31,9 +34,12 @@ unfolding
     polynomials monics monicsTo highest listed powersAmong powers lifts primary
     hBar m1 w u splitting partsOf
     members listOf different freeDigits
-    step atEnd readFrom readSheet coefficientBytes sheetBytes
-    factorBytes partBytes totalBytes endBytes answer
-    operandCount commandsAfter withCoefficients factorsIn totalIn factorList factorTotal differentTotal
+    bytesOf operandCount commandsAfter firstWith
+    done goOn _>>=_ judged onNext byte commandByte withOperand flag
+    coefficientCommands coefficients
+    sheet whole readSheet headCommands lastCommands sheetCommands sheetBytes
+    factorCommands partCommands endCommands answerCommands answer
+    withCoefficients factorsIn factorList factorTotal differentTotal
     answerTo splitCall sheetIn isAnswerTo readCall
     lastDigits decimal headText coefficientText factorText partText totalText partsText answerText refusalText printed
 everything = tt

@@ -8,7 +8,7 @@ use mathlib.Core.List.{List, [], _∷_, _++_, flatMap}
 use lib.Dec.{ltb}
 use Rattle.specification.specs.Polynomials.{Poly, degree}
 use Rattle.specification.specs.Parts.{Verdict, basic, solid, power, split, Factor, Part, partsOf}
-use Rattle.specification.specs.Totals.{listOf, total, different, freeDigits}
+use Rattle.specification.specs.Totals.{Totals, totalsOf}
 use Rattle.specification.specs.Sheets.{Sheet, accepted, fault, readSheet}
 
 -- ---- words and numbers
@@ -62,16 +62,16 @@ partText P =
     item "part " (degree (P .base)) ++ item " " (P .exponent) ++ verdictText (P .splitting .verdict) ++ flatMap factorText (P .splitting .factors)
 
 -- "The last line holds the three totals"
-unfoldable pub totalText : ℕ → ℕ → ℕ → List ℕ
-totalText s z r = item "total " s ++ item " different " z ++ item " free " r ++ ascii "\n"
+unfoldable pub totalText : Totals → List ℕ
+totalText t = item "total " (t .factors) ++ item " different " (t .different) ++ item " free " (t .free) ++ ascii "\n"
 
--- the lines for a prime, a degree and the parts
-unfoldable pub partsText : ℕ → ℕ → List Part → List ℕ
-partsText p d Ps = headText p d ++ flatMap partText Ps ++ totalText (total Ps) (different (listOf Ps)) (freeDigits Ps)
+-- the lines for a sheet, these being its parts
+unfoldable pub partsText : Sheet → List Part → List ℕ
+partsText s Ps = headText (s .prime) (degree (s .poly)) ++ flatMap partText Ps ++ totalText (totalsOf Ps)
 
 -- the lines for a sheet
 unfoldable pub answerText : Sheet → List ℕ
-answerText s = partsText (s .prime) (degree (s .poly)) (partsOf (s .prime) (s .poly))
+answerText s = partsText s (partsOf (s .prime) (s .poly))
 
 -- ---- the program
 

@@ -33,3 +33,12 @@ different (f ∷ fs) = cond (any (same f) fs) 0 1 + different fs
 unfoldable pub freeDigits : List Part → ℕ
 freeDigits [] = 0
 freeDigits (P ∷ Ps) = degree (P .base) * (length (members P) - 1) + freeDigits Ps
+
+-- the three of them, as an answer has them
+pub record Totals : Type 0 where
+  pub factors : ℕ
+  pub different : ℕ
+  pub free : ℕ
+
+abbrev pub totalsOf : List Part → Totals
+totalsOf Ps = record { factors = total Ps; different = different (listOf Ps); free = freeDigits Ps }

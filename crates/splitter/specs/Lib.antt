@@ -1,3 +1,3 @@
 pub mod Outcomes
-pub mod Reader
+pub mod AnswerReader
 pub mod Laws

@@ -4,14 +4,15 @@ ghost use mathlib.Core.Path.{_≡_};
 ghost use Prim.Native.Nat.{_≤_};
 ghost use lib.ListN.{length, take};
 ghost use Rattle.specification.specs.Limits.{answerArea};
-ghost use Rattle.specification.specs.Sheets.{sheetOf};
 ghost use Rattle.specification.specs.Answers.{answer};
 ghost use Rattle.specification.specs.Calls.{splitCall, readCall};
+ghost use Rattle.specification.specs.Promises.{GoodSheet};
 ghost use Rattle.factors.specs.Cut.{MonicModSquare};
-ghost use Rattle.verdicts.specs.Given.{listed};
+ghost use Rattle.commands.specs.Views.{asSheet};
 ghost use Rattle.pieces.specs.Order.{Answers};
 ghost use Rattle.writing.specs.Area.{Wrote};
 ghost use Rattle.splitter.specs.Outcomes.{IsSuccess, IsRefused, Called};
+use commands::Sheet;
 use reading::find_candidate;
 use sheets::read_sheet;
 use writing::write_sheet;
@@ -49,13 +50,14 @@ fn refused(number: u8, place: usize) -> Outcome
     }
 }
 
-// The answer to the sheet of p and f, from the start of the area on; f is of degree d.
-fn answer_to(out: &mut [u8], p: u8, d: usize, f: [u16; 33]) -> usize
-    requires { ⌜ MonicModSquare p f d × (answerArea ≤ length (now out)) ⌝ }
-    ensures { λ r. ⌜ Wrote (now (out .entry)) (now (out .exit)) 0 (answer (sheetOf p (listed d f))) r ⌝ }
+// The answer to a sheet, from the start of the area on.
+fn answer_to(out: &mut [u8], s: Sheet) -> usize
+    requires { ⌜ MonicModSquare (s .prime) (s .coefs) (s .degree) × GoodSheet (asSheet s) × (answerArea ≤ length (now out)) ⌝ }
+    ensures { λ r. ⌜ Wrote (now (out .entry)) (now (out .exit)) 0 (answer (asSheet s)) r ⌝ }
 {
-    let parts = parts::split(f, d, p as u16);
-    answers::write_answer(out, p, d, parts)
+    let f = s.coefs;
+    let parts = parts::split(f, s.degree, s.prime as u16);
+    answers::write_answer(out, s, parts)
 }
 
 // The answer to a sheet, written into the area.
@@ -65,12 +67,12 @@ pub fn split(sheet: &[u8], area: &mut [u8]) -> Outcome
     if area.len() < AREA {
         return refused(1, 0);
     }
-    let s = read_sheet(sheet);
-    if s.number != 0 {
-        return refused(s.number, s.place);
+    let read = read_sheet(sheet);
+    if read.number != 0 {
+        return refused(read.number, read.place);
     }
-    let f = s.coefs;
-    success(answer_to(area, s.prime, s.degree, f))
+    let s = read.sheet;
+    success(answer_to(area, s))
 }
 
 // The first `count` bytes of b are the bytes of a.
@@ -91,13 +93,13 @@ fn same_bytes(a: &[u8], b: &[u8], count: usize) -> bool
     true
 }
 
-// The bytes are the answer to the sheet of p and f, of degree d.
-fn is_answer(bytes: &[u8], p: u8, d: usize, f: [u16; 33]) -> bool
-    requires { ⌜ MonicModSquare p f d ⌝ }
-    ensures { λ r. ⌜ Answers r (now (bytes .entry) ≡ answer (sheetOf p (listed d f))) ⌝ }
+// The bytes are the answer to a sheet.
+fn is_answer(bytes: &[u8], s: Sheet) -> bool
+    requires { ⌜ MonicModSquare (s .prime) (s .coefs) (s .degree) × GoodSheet (asSheet s) ⌝ }
+    ensures { λ r. ⌜ Answers r (now (bytes .entry) ≡ answer (asSheet s)) ⌝ }
 {
     let mut own = [0u8; AREA];
-    let count = answer_to(&mut own, p, d, f);
+    let count = answer_to(&mut own, s);
     same_bytes(bytes, &own, count)
 }
 
@@ -110,9 +112,9 @@ pub fn read(bytes: &[u8], area: &mut [u8]) -> Outcome
     }
     let c = find_candidate(bytes);
     if c.found {
-        let f = c.coefs;
-        if is_answer(bytes, c.prime, c.degree, f) {
-            return success(write_sheet(area, c.prime, c.degree, f));
+        let s = c.sheet;
+        if is_answer(bytes, s) {
+            return success(write_sheet(area, s));
         }
     }
     refused(9, 0)

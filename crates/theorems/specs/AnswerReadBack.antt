@@ -1,138 +1,178 @@
--- What is read off an answer's bytes, where the factors of its parts are monic: the list of the parts, and its first two totals.
+-- What is read off an answer's bytes, where the factors of its parts are monic: its commands, the list of the parts, and its first two totals.
 -- Proves them of every sheet's answer, and carries term 3 from the list of the definitions to the bytes. Assumes nothing.
-use mathlib.Core.Path.{_≡_, refl}
+use mathlib.Core.Path.{_≡_, refl, _∙_, ap}
+use mathlib.Core.Bool.{false}
 use mathlib.Core.List.{List, [], _∷_, _++_, append-assoc, append-nil, flatMap}
 use mathlib.Core.List.{List·Memᴰ·head as here}
 use Prim.Native.Nat.{ℕ, _*_}
 use lib.ListN.{replicate}
+use lib.Dec.{eqb}
 use Rattle.specification.specs.Lists.{first}
-use Rattle.specification.specs.Polynomials.{monomial}
+use Rattle.specification.specs.Polynomials.{Poly, degree, lower, monomial}
 use Rattle.specification.specs.Parts.{Factor, Part}
-use Rattle.specification.specs.Totals.{copies, listOf, total, different}
-use Rattle.specification.specs.Sheets.{Sheet}
-use Rattle.specification.specs.Answers.{factorBytes, partBytes, totalBytes, endBytes, answer}
-use Rattle.specification.specs.FactorList.{
-  operandCount,
-  commandsAfter,
-  commands,
-  withCoefficients,
-  factorsIn,
-  totalIn,
-  factorList,
-  factorTotal,
-  differentTotal,
-}
+use Rattle.specification.specs.Totals.{copies, listOf, total, different, Totals, totalsOf}
+use Rattle.specification.specs.Commands.{Command, command, operandCount, commands, firstWith}
+use Rattle.specification.specs.Coefficients.{coefficientCode, coefficientCommands}
+use Rattle.specification.specs.Sheets.{Sheet, headCommands}
+use Rattle.specification.specs.Answers.{factorCommands, partCommands, endCommands, answerCommands, answer}
+use Rattle.specification.specs.FactorList.{withCoefficients, factorsIn, factorList, factorTotal, differentTotal}
 use Rattle.specification.specs.Claims as claims
-use Rattle.factorisation.specs.Members.{All, all-tail}
-use Rattle.theorems.specs.AnswerLayout.{sheetParts, answer-is, factorBytes-cons, partBytes-cons, copies-cons, listOf-cons}
-use Rattle.theorems.specs.CommandsReadBack.{commands-coefficients, factors-coefficients, total-coefficients, Other, written-back}
+use Rattle.factorisation.specs.Members.{All, all-cons, all-tail, all-append}
+use Rattle.theorems.specs.CommandBytes.{items-cons}
+use Rattle.theorems.specs.CoefficientBytes.{all-coefficients}
+use Rattle.theorems.specs.AnswerLayout.{sheetParts, copies-cons, listOf-cons}
+use Rattle.theorems.specs.CommandsReadBack.{
+  WellFormed,
+  commands-back,
+  Without,
+  firstWith-past,
+  factors-past,
+  NoCoefficient,
+  written-back,
+}
 
 -- every factor of every part is monic modulo n
 abbrev pub MonicFactors : ℕ → List Part → Type 0
 MonicFactors n Ps = All (λ (P : Part). All (λ (q : Factor). claims.Monic n (q .poly)) (P .splitting .factors)) Ps
 
--- ---- the commands of the table as equations
+-- ---- what holds of every command of the parts
 
-factors-head : (p d : ℕ) (bytes : List ℕ) → factorsIn (commands (0x01 ∷ p ∷ 0x02 ∷ d ∷ bytes)) ≡ factorsIn (commands bytes)
-unfolding factorsIn commandsAfter operandCount first
-factors-head p d bytes = refl
+-- a property of commands, of each kind that parts have
+record Kinds (p : ℕ) (C : Command → Type 0) : Type 0 where
+  part : (d m v : ℕ) → C (command 0x11 (d ∷ m ∷ v ∷ []))
+  factor : (e t : ℕ) → C (command 0x12 (e ∷ t ∷ []))
+  coefficients : (f : Poly) → All C (coefficientCommands p 0 f)
 
-factors-part : (d m v : ℕ) (bytes : List ℕ) → factorsIn (commands (0x11 ∷ d ∷ m ∷ v ∷ bytes)) ≡ factorsIn (commands bytes)
-unfolding factorsIn commandsAfter operandCount first
-factors-part d m v bytes = refl
+module _ {C : Command → Type 0} (s : Sheet) (k : Kinds (s .prime) C) where
+  all-factors : (qs : List Factor) → All C (flatMap (factorCommands (s .prime)) qs)
+  unfolding flatMap factorCommands
+  all-factors [] = λ c i. elim i [ ]
+  all-factors (q ∷ qs) = all-cons (k .factor _ _) (all-append (k .coefficients (lower (q .poly))) (all-factors qs))
 
-factors-factor : (e t : ℕ) (bytes : List ℕ)
-    → factorsIn (commands (0x12 ∷ e ∷ t ∷ bytes)) ≡ replicate t (withCoefficients (monomial e) (commands bytes)) ++ factorsIn (commands bytes)
-unfolding factorsIn commandsAfter operandCount first
-factors-factor e t bytes = refl
+  all-parts : (Ps : List Part) → All C (flatMap (partCommands s) Ps)
+  unfolding flatMap partCommands
+  all-parts [] = λ c i. elim i [ ]
+  all-parts (P ∷ Ps) = all-cons (k .part _ _ _) (all-append (all-factors (P .splitting .factors)) (all-parts Ps))
 
-factors-end : (Ps : List Part) → factorsIn (commands (endBytes Ps)) ≡ []
-unfolding factorsIn commandsAfter operandCount first endBytes totalBytes
-factors-end Ps = refl
+-- each command has the operands that its code asks for
+well-formed : (s : Sheet) (Ps : List Part) → All WellFormed (answerCommands s Ps)
+unfolding answerCommands headCommands endCommands operandCount first
+well-formed s Ps =
+    all-cons refl (all-cons refl (all-append (all-parts s (record {
+      part = λ d m v. refl;
+      factor = λ e t. refl;
+      coefficients = λ f. all-coefficients WellFormed (s .prime) 0 f (λ i v. refl);
+    }) Ps) (all-cons refl (all-cons refl (λ c i. elim i [ ])))))
 
-total-head : (j p d : ℕ) (bytes : List ℕ) → totalIn j (commands (0x01 ∷ p ∷ 0x02 ∷ d ∷ bytes)) ≡ totalIn j (commands bytes)
-unfolding totalIn commandsAfter operandCount first
-total-head j p d bytes = refl
+-- no part has a code that is none of 0x11, 0x12 and a coefficient's
+parts-without : (s : Sheet) (code : ℕ) → eqb 0x11 code ≡ false → eqb 0x12 code ≡ false → eqb (coefficientCode (s .prime)) code ≡ false → (Ps : List Part)
+    → Without code (flatMap (partCommands s) Ps)
+parts-without s code h i j Ps =
+    all-parts s (record {
+      part = λ d m v. h;
+      factor = λ e t. i;
+      coefficients = λ f. all-coefficients (λ c. eqb (c .code) code ≡ false) (s .prime) 0 f (λ k v. j);
+    }) Ps
 
-total-part : (j d m v : ℕ) (bytes : List ℕ) → totalIn j (commands (0x11 ∷ d ∷ m ∷ v ∷ bytes)) ≡ totalIn j (commands bytes)
-unfolding totalIn commandsAfter operandCount first
-total-part j d m v bytes = refl
+-- ---- no coefficient follows a factor's own
 
-total-factor : (j e t : ℕ) (bytes : List ℕ) → totalIn j (commands (0x12 ∷ e ∷ t ∷ bytes)) ≡ totalIn j (commands bytes)
-unfolding totalIn commandsAfter operandCount first
-total-factor j e t bytes = refl
+pub other-factors : (p : ℕ) (qs : List Factor) (cs : List Command) → NoCoefficient cs → NoCoefficient (flatMap (factorCommands p) qs ++ cs)
+unfolding flatMap factorCommands
+other-factors p [] cs o = o
+other-factors p (q ∷ qs) cs o = refl
 
-total-end : (Ps : List Part) → totalIn 0 (commands (endBytes Ps)) ≡ total Ps
-unfolding totalIn commandsAfter operandCount first endBytes totalBytes
-total-end Ps = refl
-
-different-end : (Ps : List Part) → totalIn 1 (commands (endBytes Ps)) ≡ different (listOf Ps)
-unfolding totalIn commandsAfter operandCount first endBytes totalBytes
-different-end Ps = refl
-
--- ---- no 0x03 follows a factor's own
-
-other-factors : (qs : List Factor) (bytes : List ℕ) → Other (commands bytes) → Other (commands (flatMap factorBytes qs ++ bytes))
-unfolding flatMap factorBytes commandsAfter operandCount
-other-factors [] bytes o = o
-other-factors (q ∷ qs) bytes o = refl
-
-other-parts : (Ps : List Part) (bytes : List ℕ) → Other (commands bytes) → Other (commands (flatMap partBytes Ps ++ bytes))
-unfolding flatMap partBytes commandsAfter operandCount
-other-parts [] bytes o = o
-other-parts (P ∷ Ps) bytes o = refl
-
-other-end : (Ps : List Part) → Other (commands (endBytes Ps))
-unfolding commandsAfter endBytes totalBytes
-other-end Ps = refl
+pub other-parts : (s : Sheet) (Ps : List Part) (cs : List Command) → NoCoefficient cs → NoCoefficient (flatMap (partCommands s) Ps ++ cs)
+unfolding flatMap partCommands
+other-parts s [] cs o = o
+other-parts s (P ∷ Ps) cs o = refl
 
 -- ---- the list
 
-factors-back : {n : ℕ} (qs : List Factor) (bytes : List ℕ) → All (λ (q : Factor). claims.Monic n (q .poly)) qs → Other (commands bytes)
-    → factorsIn (commands (flatMap factorBytes qs ++ bytes)) ≡ flatMap copies qs ++ factorsIn (commands bytes)
-factors-back [] bytes h o = unfold flatMap in refl
-factors-back (q ∷ qs) bytes h o =
-    let more = factors-back qs bytes (all-tail h) o in
-    let back = written-back (q .poly) (commands (flatMap factorBytes qs ++ bytes)) (h q (here refl)) (other-factors qs bytes o) in
-    simp (factorBytes-cons, factors-factor, append-assoc, commands-coefficients, back, factors-coefficients, more, copies-cons)
+-- the factors of commands, a factor or a part at a time
+factors-factor : (p : ℕ) (q : Factor) (cs : List Command)
+    → let more : List Command = coefficientCommands p 0 (lower (q .poly)) ++ cs in
+    factorsIn (factorCommands p q ++ cs) ≡ replicate (q .times) (withCoefficients (monomial (degree (q .poly))) more) ++ factorsIn more
+unfolding factorCommands factorsIn
+factors-factor p q cs = refl
 
-parts-back : {n : ℕ} (Ps : List Part) (bytes : List ℕ) → MonicFactors n Ps → Other (commands bytes)
-    → factorsIn (commands (flatMap partBytes Ps ++ bytes)) ≡ listOf Ps ++ factorsIn (commands bytes)
-parts-back [] bytes h o = unfold flatMap listOf in refl
-parts-back (P ∷ Ps) bytes h o =
-    let more = parts-back Ps bytes (all-tail h) o in
-    let back = factors-back (P .splitting .factors) (flatMap partBytes Ps ++ bytes) (h P (here refl)) (other-parts Ps bytes o) in
-    simp (partBytes-cons, factors-part, append-assoc, back, more, listOf-cons)
+factors-part : (s : Sheet) (P : Part) (cs : List Command)
+    → factorsIn (partCommands s P ++ cs) ≡ factorsIn (flatMap (factorCommands (s .prime)) (P .splitting .factors) ++ cs)
+unfolding partCommands factorsIn
+factors-part s P cs = refl
 
--- ---- the totals
+-- no factor stands in the head, nor after the parts
+factors-head : (s : Sheet) (cs : List Command) → factorsIn (headCommands s ++ cs) ≡ factorsIn cs
+unfolding headCommands factorsIn
+factors-head s cs = refl
 
-total-factors : (j : ℕ) (qs : List Factor) (bytes : List ℕ) → totalIn j (commands (flatMap factorBytes qs ++ bytes)) ≡ totalIn j (commands bytes)
-total-factors j [] bytes = unfold flatMap in refl
-total-factors j (q ∷ qs) bytes = simp (factorBytes-cons, total-factor, append-assoc, commands-coefficients, total-coefficients, total-factors j qs bytes)
+factors-end : (s : Sheet) (t : Totals) → factorsIn (endCommands s t) ≡ []
+unfolding endCommands factorsIn
+factors-end s t = refl
 
-total-parts : (j : ℕ) (Ps : List Part) (bytes : List ℕ) → totalIn j (commands (flatMap partBytes Ps ++ bytes)) ≡ totalIn j (commands bytes)
-total-parts j [] bytes = unfold flatMap in refl
-total-parts j (P ∷ Ps) bytes = simp (partBytes-cons, total-part, append-assoc, total-factors, total-parts j Ps bytes)
+other-end : (s : Sheet) (t : Totals) → NoCoefficient (endCommands s t)
+unfolding endCommands
+other-end s t = refl
+
+factors-back : {n : ℕ} (p : ℕ) (qs : List Factor) (cs : List Command) → All (λ (q : Factor). claims.Monic n (q .poly)) qs → NoCoefficient cs
+    → factorsIn (flatMap (factorCommands p) qs ++ cs) ≡ flatMap copies qs ++ factorsIn cs
+factors-back p [] cs h o = unfold flatMap in refl
+factors-back p (q ∷ qs) cs h o =
+    let f : Poly = lower (q .poly) in
+    let more : List Command = flatMap (factorCommands p) qs ++ cs in
+    let back = written-back p (q .poly) more (h q (here refl)) (other-factors p qs cs o) in
+    let past = factors-past (coefficientCommands p 0 f) more (all-coefficients (λ c. eqb (c .code) 0x12 ≡ false) p 0 f (λ i v. refl)) in
+    simp (items-cons, factors-factor, back, past, factors-back p qs cs (all-tail h) o, copies-cons, append-assoc)
+
+parts-back : {n : ℕ} (s : Sheet) (Ps : List Part) (cs : List Command) → MonicFactors n Ps → NoCoefficient cs
+    → factorsIn (flatMap (partCommands s) Ps ++ cs) ≡ listOf Ps ++ factorsIn cs
+parts-back s [] cs h o = unfold flatMap listOf in refl
+parts-back s (P ∷ Ps) cs h o =
+    let more = parts-back s Ps cs (all-tail h) o in
+    let back = factors-back (s .prime) (P .splitting .factors) (flatMap (partCommands s) Ps ++ cs) (h P (here refl)) (other-parts s Ps cs o) in
+    simp (items-cons, factors-part, back, more, listOf-cons, append-assoc)
 
 -- ---- a sheet's answer
 
 module _ (s : Sheet) where
-  pub list-back : {n : ℕ} → MonicFactors n (sheetParts s) → factorList (answer s) ≡ listOf (sheetParts s)
-  unfolding factorList
+  abbrev Ps : List Part
+  Ps = sheetParts s
+
+  -- an answer's bytes are cut into the commands they were made of
+  pub answer-commands : commands (answer s) ≡ answerCommands s Ps
+  unfolding answer
+  answer-commands = commands-back (answerCommands s Ps) (well-formed s Ps)
+
+  pub list-back : {n : ℕ} → MonicFactors n Ps → factorList (answer s) ≡ listOf Ps
+  unfolding factorList answerCommands
   list-back h =
-      let back = parts-back (sheetParts s) (endBytes (sheetParts s)) h (other-end (sheetParts s)) in
-      simp (answer-is, factors-head, back, factors-end, append-nil)
+      let t : Totals = totalsOf Ps in
+      ap factorsIn answer-commands ∙ factors-head s (flatMap (partCommands s) Ps ++ endCommands s t)
+      ∙ parts-back s Ps (endCommands s t) h (other-end s t) ∙ ap (λ (l : List Poly). listOf Ps ++ l) (factors-end s t) ∙ append-nil (listOf Ps)
 
-  pub total-back : factorTotal (answer s) ≡ total (sheetParts s)
-  unfolding factorTotal
-  total-back = simp (answer-is, total-head, total-parts, total-end)
+  -- the first command with a code that stands in the head or in the end alone
+  pub head-back : firstWith 0x01 (commands (answer s)) ≡ command 0x01 (s .prime ∷ [])
+  head-back = rw answer-commands (unfold answerCommands headCommands firstWith first in refl)
 
-  pub different-back : differentTotal (answer s) ≡ different (listOf (sheetParts s))
-  unfolding differentTotal
-  different-back = simp (answer-is, total-head, total-parts, different-end)
+  end-back : (code : ℕ) → eqb 0x11 code ≡ false → eqb 0x12 code ≡ false → eqb (coefficientCode (s .prime)) code ≡ false → Without code (headCommands s)
+      → firstWith code (commands (answer s)) ≡ firstWith code (endCommands s (totalsOf Ps))
+  unfolding answerCommands
+  end-back code h i j w =
+      ap (firstWith code) answer-commands
+      ∙ firstWith-past code (headCommands s) (flatMap (partCommands s) Ps ++ endCommands s (totalsOf Ps)) w
+      ∙ firstWith-past code (flatMap (partCommands s) Ps) (endCommands s (totalsOf Ps)) (parts-without s code h i j Ps)
+
+  totals : firstWith 0x13 (commands (answer s)) ≡ firstWith 0x13 (endCommands s (totalsOf Ps))
+  totals = end-back 0x13 refl refl refl (unfold headCommands in all-cons refl (all-cons refl (λ c i. elim i [ ])))
+
+  pub total-back : factorTotal (answer s) ≡ total Ps
+  unfolding factorTotal firstWith first endCommands
+  total-back = rw totals refl
+
+  pub different-back : differentTotal (answer s) ≡ different (listOf Ps)
+  unfolding differentTotal firstWith first endCommands
+  different-back = rw totals refl
 
   -- "Term 3 is read off bytes"
-  pub longest-in : {n : ℕ} → MonicFactors n (sheetParts s)
-      → claims.Longest (s .prime * s .prime) (s .poly) (listOf (sheetParts s)) (total (sheetParts s)) (different (listOf (sheetParts s)))
+  pub longest-in : {n : ℕ} → MonicFactors n Ps → claims.Longest (s .prime * s .prime) (s .poly) (listOf Ps) (total Ps) (different (listOf Ps))
       → claims.LongestIn s (answer s)
   longest-in h t = rw (list-back h, total-back, different-back) t

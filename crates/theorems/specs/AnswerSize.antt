@@ -2,68 +2,75 @@
 -- Proves that the answer to a good sheet fits the answer area of 384 bytes, and that every byte of it is below 256. Assumes nothing.
 use mathlib.Core.Path.{_≡_, refl, ap}
 use mathlib.Core.Bool.{true}
-use mathlib.Core.List.{List, [], _∷_, flatMap}
+use mathlib.Core.List.{List, [], _∷_, _++_, flatMap}
 use mathlib.Core.List.{List·Memᴰ·head as here}
-use Prim.Native.Nat.{ℕ, zero, suc, _≤_, _<_, _+_, _*_}
+use Prim.Native.Nat.{ℕ, _≤_, _+_, _*_}
 use native.Mathlib.Nat.{mul-le-mul-left, mul-le-mul-right}
 use native.Mathlib.Omega.{arith}
-use lib.ListN.{length, getD, length-append}
-use lib.Seq.{getD-take}
+use lib.ListN.{length, length-append}
 use Rattle.specification.specs.Limits.{taken, degreeLimit, answerArea}
 use Rattle.specification.specs.Polynomials.{Poly, degree, lower}
 use Rattle.specification.specs.Parts.{Verdict, basic, solid, power, split, Factor, Part}
-use Rattle.specification.specs.Totals.{listOf}
-use Rattle.specification.specs.Sheets.{Sheet, coefficientBytes}
-use Rattle.specification.specs.Answers.{verdictNumber, factorBytes, partBytes, totalBytes, endBytes, answer}
+use Rattle.specification.specs.Totals.{listOf, totalsOf}
+use Rattle.specification.specs.Sheets.{Sheet}
+use Rattle.specification.specs.Answers.{verdictNumber, factorCommands, partCommands, endCommands, answerCommands, answer}
 use Rattle.specification.specs.Promises.{GoodSheet}
 use Rattle.algebra.specs.Tests.{passes}
 use Rattle.algebra.specs.TakenPrimes.{fits-byte, square-fits-byte}
 use Rattle.factorisation.specs.Members.{All, all-cons, all-tail, all-append}
 use Rattle.factorisation.specs.Sums.{total as sum}
 use Rattle.theorems.specs.Factors.{degrees}
-use Rattle.theorems.specs.CoefficientBytes.{length-lower}
-use Rattle.theorems.specs.AnswerLayout.{answerBytes, sheetParts, answer-is, factorBytes-cons, partBytes-cons}
+use Rattle.theorems.specs.CommandBytes.{Byte, byte-none, ByteCommand, bytes-of, length-items}
+use Rattle.theorems.specs.CoefficientBytes.{length-coefficients, byte-coefficients, length-lower, lower-reduced}
+use Rattle.theorems.specs.SheetLayout.{headBytes, headBytes-is}
+use Rattle.theorems.specs.SheetSize.{bytes-head}
+use Rattle.theorems.specs.AnswerLayout.{
+  factorBytes,
+  partBytes,
+  endBytes,
+  answerBytes,
+  sheetParts,
+  answer-is,
+  factorBytes-is,
+  partBytes-is,
+  endBytes-is,
+  answerBytes-is,
+}
 use Rattle.theorems.specs.PartShapes.{partDegrees, FactorShape, PartShape, total-bound, free-bound, different-bound}
 
 -- ---- how many bytes
 
-pub length-coefficients : (i : ℕ) (f : Poly) → length (coefficientBytes i f) ≤ 3 * length f
-unfolding coefficientBytes
-length-coefficients i [] = omega arith
-length-coefficients i (zero ∷ f) = omega (arith, length-coefficients (suc i) f)
-length-coefficients i (suc a ∷ f) = omega (arith, length-coefficients (suc i) f)
+-- the head and the end together
+abbrev endsRoom : ℕ
+endsRoom = 9
 
-length-end : (Ps : List Part) → length (endBytes Ps) ≤ 5
-unfolding endBytes totalBytes
-length-end Ps = omega arith
-
-module _ {n : ℕ} where
+module _ {n : ℕ} (s : Sheet) where
   -- a factor of degree e takes at most 3 + 3·e bytes, and its repeats weigh at least e
-  length-factors : {d : ℕ} (qs : List Factor) → All (FactorShape n d) qs → length (flatMap factorBytes qs) ≤ 6 * degrees qs
+  length-factors : {d : ℕ} (qs : List Factor) → All (FactorShape n d) qs → length (flatMap (factorBytes (s .prime)) qs) ≤ 6 * degrees qs
   unfolding sum
   length-factors [] h = unfold flatMap in omega arith
   length-factors (q ∷ qs) h =
       let q-is = h q (here refl) in
       omega (
         arith,
-        ap length (factorBytes-cons q qs),
-        length-append (coefficientBytes 0 (lower (q .poly))) (flatMap factorBytes qs),
-        length-coefficients 0 (lower (q .poly)),
+        length-items (factorBytes (s .prime)) q qs,
+        ap length (factorBytes-is (s .prime) q),
+        length-coefficients (s .prime) 0 (lower (q .poly)),
         length-lower (q .poly),
         mul-le-mul-left (degree (q .poly)) (q-is .repeated),
         q-is .monic .positive,
         length-factors qs (all-tail h),
       )
 
-  length-parts : (Ps : List Part) → All (PartShape n) Ps → length (flatMap partBytes Ps) ≤ 10 * partDegrees Ps
+  length-parts : (Ps : List Part) → All (PartShape n) Ps → length (flatMap (partBytes s) Ps) ≤ 10 * partDegrees Ps
   unfolding sum
   length-parts [] h = unfold flatMap in omega arith
   length-parts (P ∷ Ps) h =
       let P-is = h P (here refl) in
       omega (
         arith,
-        ap length (partBytes-cons P Ps),
-        length-append (flatMap factorBytes (P .splitting .factors)) (flatMap partBytes Ps),
+        length-items (partBytes s) P Ps,
+        ap length (partBytes-is s P),
         length-factors (P .splitting .factors) (P-is .factors),
         P-is .degrees,
         mul-le-mul-left (degree (P .base)) (P-is .exponent),
@@ -71,13 +78,19 @@ module _ {n : ℕ} where
         length-parts Ps (all-tail h),
       )
 
-  answer-length : (p d : ℕ) (Ps : List Part) → All (PartShape n) Ps → length (answerBytes p d Ps) ≤ 9 + 10 * partDegrees Ps
-  answer-length p d Ps h = omega (arith, length-append (flatMap partBytes Ps) (endBytes Ps), length-parts Ps h, length-end Ps)
+  answer-length : (Ps : List Part) → All (PartShape n) Ps → length (answerBytes s Ps) ≤ endsRoom + 10 * partDegrees Ps
+  answer-length Ps h =
+      omega (
+        arith,
+        ap length (answerBytes-is s Ps),
+        length-append (headBytes s) (flatMap (partBytes s) Ps ++ endBytes s (totalsOf Ps)),
+        length-append (flatMap (partBytes s) Ps) (endBytes s (totalsOf Ps)),
+        ap length (headBytes-is s),
+        length-parts Ps h,
+        ap length (endBytes-is s (totalsOf Ps)),
+      )
 
 -- ---- how large each is
-
-abbrev pub Byte : ℕ → Type 0
-Byte b = b < 256
 
 byte-verdict : (v : Verdict) → Byte (verdictNumber v)
 byte-verdict basic = omega arith
@@ -85,66 +98,53 @@ byte-verdict solid = omega arith
 byte-verdict power = omega arith
 byte-verdict (split m1) = omega arith
 
-byte-none : All Byte []
-byte-none b i = elim i [ ]
+module _ (s : Sheet) (small : s .prime * s .prime ≤ 256) where
+  abbrev p : ℕ
+  p = s .prime
 
-pub bytes-coefficients : (i : ℕ) (f : Poly) → i + length f ≤ 256 → ((k : ℕ) → k < length f → Byte (getD f k 0)) → All Byte (coefficientBytes i f)
-unfolding coefficientBytes
-bytes-coefficients i [] l h = byte-none
-bytes-coefficients i (zero ∷ f) l h = bytes-coefficients (suc i) f (omega arith) (λ k u. h (suc k) (omega arith))
-bytes-coefficients i (suc a ∷ f) l h =
-    all-cons (omega arith) (all-cons (omega arith)
-    (all-cons (h 0 (omega arith)) (bytes-coefficients (suc i) f (omega arith) (λ k u. h (suc k) (omega arith)))))
-
-module _ {n : ℕ} (small : n ≤ 256) where
-  bytes-factors : {d : ℕ} (qs : List Factor) → All (FactorShape n d) qs → Byte (degrees qs) → All Byte (flatMap factorBytes qs)
-  unfolding sum
-  bytes-factors [] h l = unfold flatMap in byte-none
+  bytes-factors : {d : ℕ} (qs : List Factor) → All (FactorShape (p * p) d) qs → Byte (degrees qs) → All ByteCommand (flatMap (factorCommands p) qs)
+  unfolding sum flatMap factorCommands
+  bytes-factors [] h l = λ c i. elim i [ ]
   bytes-factors (q ∷ qs) h l =
       let q-is = h q (here refl) in
       let f : Poly = q .poly in
       let degree-low = mul-le-mul-left (degree f) (q-is .repeated) in
       let times-low = mul-le-mul-right (q .times) (q-is .monic .positive) in
-      rw (factorBytes-cons q qs) (all-cons (omega arith) (all-cons (omega arith) (all-cons (omega arith)
-      (all-append (bytes-coefficients 0 (lower f) (omega (arith, length-lower f)) (low q q-is)) (bytes-factors qs (all-tail h) (omega arith))))))
-    where
-      low : {d : ℕ} (q : Factor) → FactorShape n d q → (k : ℕ) → k < length (lower (q .poly)) → Byte (getD (lower (q .poly)) k 0)
-      low q s k u =
-          rw (getD-take (degree (q .poly)) (q .poly) k 0 (omega (arith, length-lower (q .poly))))
-          (omega (arith, small, s .monic .reduced k (omega (arith, length-lower (q .poly)))))
+      all-cons (all-cons (omega arith) (all-cons (omega arith) (all-cons (omega arith) byte-none)))
+      (all-append (byte-coefficients p 0 (lower f) small (omega (arith, length-lower f)) (lower-reduced f (q-is .monic)))
+      (bytes-factors qs (all-tail h) (omega arith)))
 
-  bytes-parts : (Ps : List Part) → All (PartShape n) Ps → Byte (partDegrees Ps) → All Byte (flatMap partBytes Ps)
-  unfolding sum
-  bytes-parts [] h l = unfold flatMap in byte-none
+  bytes-parts : (Ps : List Part) → All (PartShape (p * p)) Ps → Byte (partDegrees Ps) → All ByteCommand (flatMap (partCommands s) Ps)
+  unfolding sum flatMap partCommands
+  bytes-parts [] h l = λ c i. elim i [ ]
   bytes-parts (P ∷ Ps) h l =
       let P-is = h P (here refl) in
       let degree-low = mul-le-mul-left (degree (P .base)) (P-is .exponent) in
       let exponent-low = mul-le-mul-right (P .exponent) (P-is .base) in
-      rw (partBytes-cons P Ps) (all-cons (omega arith) (all-cons (omega arith) (all-cons (omega arith) (all-cons (byte-verdict (P .splitting .verdict))
-      (all-append (bytes-factors (P .splitting .factors) (P-is .factors) (omega (arith, P-is .degrees))) (bytes-parts Ps (all-tail h) (omega arith)))))))
+      all-cons (all-cons (omega arith) (all-cons (omega arith) (all-cons (omega arith) (all-cons (byte-verdict (P .splitting .verdict)) byte-none))))
+      (all-append (bytes-factors (P .splitting .factors) (P-is .factors) (omega (arith, P-is .degrees))) (bytes-parts Ps (all-tail h) (omega arith)))
 
-  bytes-end : (Ps : List Part) → All (PartShape n) Ps → Byte (partDegrees Ps) → All Byte (endBytes Ps)
-  unfolding endBytes totalBytes
+  bytes-end : (Ps : List Part) → All (PartShape (p * p)) Ps → Byte (partDegrees Ps) → All ByteCommand (endCommands s (totalsOf Ps))
+  unfolding endCommands
   bytes-end Ps h u =
       let total-low = total-bound Ps h in
-      all-cons (omega arith) (all-cons (omega arith) (all-cons (omega (arith, different-bound (listOf Ps))) (all-cons (omega (arith, free-bound Ps h))
-      (all-cons (omega arith) byte-none))))
+      all-cons (all-cons (omega arith) (all-cons (omega arith) (all-cons (omega (arith, different-bound (listOf Ps)))
+      (all-cons (omega (arith, free-bound Ps h)) byte-none)))) (all-cons (all-cons (omega arith) byte-none) (λ c i. elim i [ ]))
 
-  answer-bytes : (p d : ℕ) (Ps : List Part) → Byte p → Byte d → All (PartShape n) Ps → Byte (partDegrees Ps) → All Byte (answerBytes p d Ps)
-  answer-bytes p d Ps k l h u =
-      all-cons (omega arith) (all-cons k (all-cons (omega arith) (all-cons l (all-append (bytes-parts Ps h u) (bytes-end Ps h u)))))
+  answer-bytes : (Ps : List Part) → Byte p → Byte (degree (s .poly)) → All (PartShape (p * p)) Ps → Byte (partDegrees Ps) → All Byte (answerBytes s Ps)
+  unfolding answerCommands
+  answer-bytes Ps k l h u = bytes-of (answerCommands s Ps) (all-append (bytes-head s k l) (all-append (bytes-parts Ps h u) (bytes-end Ps h u)))
 
 -- ---- a sheet's answer
 
 module _ (s : Sheet) (shapes : All (PartShape (s .prime * s .prime)) (sheetParts s)) (fits : partDegrees (sheetParts s) ≤ degreeLimit) where
   -- "With 384 bytes for the answer"
   pub answer-fits : length (answer s) ≤ answerArea
-  answer-fits = rw (answer-is s) (omega (arith, answer-length (s .prime) (degree (s .poly)) (sheetParts s) shapes))
+  answer-fits = rw (answer-is s) (omega (arith, answer-length s (sheetParts s) shapes))
 
   -- "Commands are one byte; each operand is one byte"
   pub answer-is-bytes : GoodSheet s → All Byte (answer s)
   answer-is-bytes g =
-      let p : ℕ = s .prime in
-      let t : taken p ≡ true = passes (taken p) (g .prime) in
+      let t : taken (s .prime) ≡ true = passes (taken (s .prime)) (g .prime) in
       rw (answer-is s)
-      (answer-bytes (square-fits-byte p t) p (degree (s .poly)) (sheetParts s) (fits-byte t) (omega (arith, g .fits)) shapes (omega (arith, fits)))
+      (answer-bytes s (square-fits-byte (s .prime) t) (sheetParts s) (fits-byte t) (omega (arith, g .fits)) shapes (omega (arith, fits)))

@@ -1,183 +1,113 @@
--- Sheets read, then written again: the bytes that lead to each state of the reader.
--- Proves that whatever is accepted is a good sheet, and that it was read from its own bytes. Assumes nothing.
-use mathlib.Core.Path.{_≡_, refl, sym, _∙_, ap, ap₂, subst}
-use mathlib.Core.Logic.{⊎-elim}
-use mathlib.Core.Bool.{Bool, _&&_}
+-- Sheets read, then written again, and back, command by command.
+-- Proves that bytes are accepted as s exactly if s is good and they are its bytes, so a polynomial has one sheet and a sheet one polynomial.
+-- Assumes nothing.
+use mathlib.Core.Path.{_≡_, refl, sym, _∙_, ap, subst}
+use mathlib.Core.Logic.{_↔_}
 use mathlib.Core.List.{List, [], _∷_, _++_, append-assoc, append-nil}
-use Prim.Native.Nat.{ℕ, zero, suc, _≤_, _<_, _*_}
-use native.Mathlib.Nat.{eq-or-lt-of-le}
+use Prim.Native.Nat.{ℕ, suc, _+_}
 use native.Mathlib.Omega.{arith}
-use lib.ListN.{getD, take, set, length-set}
-use lib.Seq.{getD-set-same, getD-set-other, take-set-le, append-snoc}
-use lib.Dec.{T, eqb, leb, ltb, eqb→eq, leb→le, ltb→lt}
-use Rattle.specification.specs.Limits.{taken, degreeLimit}
-use Rattle.specification.specs.Polynomials.{Poly, degree, monomial}
+use lib.ListN.{length, length-append}
+use Rattle.specification.specs.Polynomials.{degree, lower, monomial}
+use Rattle.specification.specs.Reading.{Read, got, stop, done, commandByte, withOperand}
+use Rattle.specification.specs.Coefficients.{coefficients}
 use Rattle.specification.specs.Sheets.{
   Sheet,
   sheetOf,
-  withCoefficient,
-  Due,
-  primeCommand,
   primeOperand,
-  degreeCommand,
   degreeOperand,
-  command,
-  indexOperand,
-  valueOperand,
-  nothingMore,
-  Step,
-  next,
-  wrong,
-  step,
-  Reading,
+  sheet,
   accepted,
-  fault,
-  atEnd,
-  readFrom,
+  whole,
   readSheet,
-  coefficientBytes,
   sheetBytes,
 }
 use Rattle.specification.specs.Promises.{GoodSheet}
-use Rattle.algebra.specs.Tests.{picked, left, right}
-use Rattle.theorems.specs.ListEnds.{then}
-use Rattle.theorems.specs.CoefficientBytes.{coefficientBytes-next, coefficientBytes-one}
-use Rattle.theorems.specs.GoodSheets.{monomial-low, degree-monomial, monomial-good, set-good}
+use Rattle.theorems.specs.ReaderLaws.{Holds, holds-then, then-goes, command-sound, command-goes}
+use Rattle.theorems.specs.Operands.{degree-passes, degree-within, prime-exact, degree-exact}
+use Rattle.theorems.specs.CoefficientBytes.{coefficientBytes}
+use Rattle.theorems.specs.SheetLayout.{headBytes-is, lastBytes, lastBytes-is, sheetBytes-is}
+use Rattle.theorems.specs.CoefficientsRead.{coefficients-sound, coefficients-complete}
 
--- the coefficients below `least` are those of the bytes w, and the others below the top are 0
-record Begun (s : Sheet) (least : ℕ) (w : List ℕ) : Type 0 where
-  good : GoodSheet s
-  within : least ≤ degree (s .poly)
-  zeros : (i : ℕ) → least ≤ i → i < degree (s .poly) → getD (s .poly) i 0 ≡ 0
-  bytes : w ≡ 0x01 ∷ s .prime ∷ 0x02 ∷ degree (s .poly) ∷ coefficientBytes 0 (take least (s .poly))
+-- the bytes of a sheet and then others, stage by stage
+bytes-before : (s : Sheet) (rest : List ℕ)
+    → sheetBytes s ++ rest ≡ 0x01 ∷ s .prime ∷ 0x02 ∷ degree (s .poly) ∷ (coefficientBytes (s .prime) 0 (lower (s .poly)) ++ (lastBytes s ++ rest))
+bytes-before s rest =
+    rw (sheetBytes-is s, headBytes-is s)
+    (ap (λ (bytes : List ℕ). 0x01 ∷ s .prime ∷ 0x02 ∷ degree (s .poly) ∷ bytes)
+    (append-assoc (coefficientBytes (s .prime) 0 (lower (s .poly))) (lastBytes s) rest))
 
-begun-none : (p n : ℕ) → T (taken p) → 0 < n → n ≤ degreeLimit → Begun (sheetOf p (monomial n)) 0 (0x01 ∷ p ∷ 0x02 ∷ n ∷ [])
-begun-none p n t l u = record {
-  good = monomial-good p n t l u;
-  within = omega arith;
-  zeros = λ i k h. monomial-low n i (omega (arith, degree-monomial n));
-  bytes = unfold coefficientBytes in ap (λ (d : ℕ). 0x01 ∷ p ∷ 0x02 ∷ d ∷ []) (sym (degree-monomial n));
-}
+last-before : (s : Sheet) (rest : List ℕ) → lastBytes s ++ rest ≡ 0x0F ∷ rest
+last-before s rest = ap (λ (bytes : List ℕ). bytes ++ rest) (lastBytes-is s)
 
-begun-zero : {s : Sheet} {i : ℕ} {w : List ℕ} → Begun s i w → i < degree (s .poly) → Begun s (suc i) w
-begun-zero {s} {i} {w} b l = record {
-  good = b .good;
-  within = l;
-  zeros = λ j k h. b .zeros j (omega arith) h;
-  bytes = b .bytes ∙ ap (λ (c : List ℕ). 0x01 ∷ s .prime ∷ 0x02 ∷ degree (s .poly) ∷ c) (sym nothing);
-}
-  where
-    nothing : coefficientBytes 0 (take (suc i) (s .poly)) ≡ coefficientBytes 0 (take i (s .poly))
-    nothing =
-        coefficientBytes-next (s .poly) i (omega arith)
-        ∙ ap (λ (a : ℕ). coefficientBytes 0 (take i (s .poly)) ++ coefficientBytes i (a ∷ [])) (b .zeros i (omega arith) l)
-        ∙ (unfold coefficientBytes in append-nil (coefficientBytes 0 (take i (s .poly))))
+length-sheet : (s : Sheet) → suc (4 + length (coefficientBytes (s .prime) 0 (lower (s .poly)))) ≡ length (sheetBytes s)
+length-sheet s =
+    omega (
+      arith,
+      ap length (bytes-before s []),
+      ap length (append-nil (sheetBytes s)),
+      length-append (coefficientBytes (s .prime) 0 (lower (s .poly))) (lastBytes s ++ []),
+      ap length (last-before s []),
+    )
 
-begun-later : {s : Sheet} {least : ℕ} {w : List ℕ} → Begun s least w → (i : ℕ) → least ≤ i → i ≤ degree (s .poly) → Begun s i w
-begun-later {s} {least} {w} b zero l u = subst (λ (k : ℕ). Begun s k w) (let e : least ≡ 0 = omega arith in e) b
-begun-later {s} {least} {w} b (suc i) l u =
-    ⊎-elim (λ e. subst (λ (k : ℕ). Begun s k w) e b) (λ h. begun-zero (begun-later b i (omega arith) (omega arith)) u) (eq-or-lt-of-le l)
+-- ---- read
 
-begun-set : {s : Sheet} {i : ℕ} {w : List ℕ} → Begun s i w → i < degree (s .poly) → (v : ℕ) → 0 < v → v < s .prime * s .prime
-    → Begun (withCoefficient s i v) (suc i) (w ++ (0x03 ∷ i ∷ v ∷ []))
-begun-set {s} {i} {w} b h v l u = record {
-  good = set-good s i v (b .good) h u;
-  within = omega (arith, length-set (s .poly) i v);
-  zeros = λ j k m. getD-set-other (s .poly) i j v 0 (omega arith) ∙ b .zeros j (omega arith) (omega (arith, length-set (s .poly) i v));
-  bytes = ap (λ (x : List ℕ). x ++ (0x03 ∷ i ∷ v ∷ [])) (b .bytes) ∙ ap₂ (λ (d : ℕ) (c : List ℕ). 0x01 ∷ s .prime ∷ 0x02 ∷ d ∷ c) same-degree (sym one);
-}
-  where
-    same-degree : degree (s .poly) ≡ degree (set (s .poly) i v)
-    same-degree = omega (arith, length-set (s .poly) i v)
+-- a good sheet, with its bytes before `rest`
+abbrev Found : List ℕ → Sheet → ℕ → List ℕ → Type 0
+Found bytes s after rest = GoodSheet s × (bytes ≡ sheetBytes s ++ rest)
 
-    one : coefficientBytes 0 (take (suc i) (set (s .poly) i v)) ≡ coefficientBytes 0 (take i (s .poly)) ++ (0x03 ∷ i ∷ v ∷ [])
-    one =
-        coefficientBytes-next (set (s .poly) i v) i (omega (arith, length-set (s .poly) i v))
-        ∙ ap₂ (λ (f : Poly) (a : ℕ). coefficientBytes 0 f ++ coefficientBytes i (a ∷ []))
-        (take-set-le i (s .poly) i v (omega arith)) (getD-set-same (s .poly) i v 0 (omega arith))
-        ∙ ap (λ (c : List ℕ). coefficientBytes 0 (take i (s .poly)) ++ c) (coefficientBytes-one i v l)
+sheet-sound : (bytes : List ℕ) → Holds (Found bytes) (sheet 0 bytes)
+unfolding sheet
+sheet-sound bytes =
+    holds-then (Found bytes) (withOperand 0x01 primeOperand) _ 0 bytes (prime-exact .sound 0 bytes) (λ p at₂ rest₂ (t, e₂).
+    holds-then (Found bytes) (withOperand 0x02 degreeOperand) _ at₂ rest₂ (degree-exact .sound at₂ rest₂) (λ n at₄ rest₄ (u, e₄).
+    let (low, high) = degree-within n u in
+    holds-then (Found bytes) (coefficients (suc n) p 0 (monomial n)) _ at₄ rest₄ (coefficients-sound p n t low high at₄ rest₄) (λ f at₅ rest₅ (good, d, e₅).
+    holds-then (Found bytes) (commandByte 0x0F) (λ c. done (sheetOf p f)) at₅ rest₅ (command-sound 0x0F at₅ rest₅) (λ c at₆ rest₆ e₆.
+    unfold done in (good, cc (bytes-before (sheetOf p f) rest₆, last-before (sheetOf p f) rest₆))))))
 
-begun-end : {s : Sheet} {least : ℕ} {w : List ℕ} → Begun s least w → w ++ (0x0F ∷ []) ≡ sheetBytes s
-unfolding sheetBytes
-begun-end {s} b = ap (λ (x : List ℕ). x ++ (0x0F ∷ [])) (begun-later b (degree (s .poly)) (b .within) (omega arith) .bytes)
+-- ---- written
 
--- the bytes w lead to the state
-abbrev Reached : Due → List ℕ → Type 0
-Reached primeCommand w = w ≡ []
-Reached primeOperand w = w ≡ 0x01 ∷ []
-Reached (degreeCommand p) w = T (taken p) × (w ≡ 0x01 ∷ p ∷ [])
-Reached (degreeOperand p) w = T (taken p) × (w ≡ 0x01 ∷ p ∷ 0x02 ∷ [])
-Reached (command s least) w = Begun s least w
-Reached (indexOperand s least) w = (v : List ℕ) × Begun s least v × (w ≡ v ++ (0x03 ∷ []))
-Reached (valueOperand s i) w = (v : List ℕ) × Begun s i v × (i < degree (s .poly)) × (w ≡ v ++ (0x03 ∷ i ∷ []))
-Reached (nothingMore s) w = GoodSheet s × (w ≡ sheetBytes s)
+sheet-complete : (s : Sheet) → GoodSheet s → (rest : List ℕ) → sheet 0 (sheetBytes s ++ rest) ≡ got s (length (sheetBytes s)) rest
+unfolding sheet done
+sheet-complete s g rest =
+    let p : ℕ = s .prime in
+    let n : ℕ = degree (s .poly) in
+    let coefs : List ℕ = coefficientBytes p 0 (lower (s .poly)) in
+    let last : List ℕ = 0x0F ∷ rest in
+    ap (sheet 0) (bytes-before s rest)
+    ∙ ap (λ (bytes : List ℕ). sheet 0 (0x01 ∷ p ∷ 0x02 ∷ n ∷ (coefs ++ bytes))) (last-before s rest)
+    ∙ then-goes (withOperand 0x01 primeOperand) _ (prime-exact .complete 0 p (0x02 ∷ n ∷ (coefs ++ last)) (g .prime))
+    ∙ then-goes (withOperand 0x02 degreeOperand) _ (degree-exact .complete 2 n (coefs ++ last) (degree-passes n (g .monic .positive) (g .fits)))
+    ∙ then-goes (coefficients (suc n) p 0 (monomial n)) _ (coefficients-complete s g 4 last (λ e. omega arith))
+    ∙ then-goes (commandByte 0x0F) _ (command-goes 0x0F (4 + length coefs) rest)
+    ∙ ap (λ (k : ℕ). got s k rest) (length-sheet s)
 
--- w leads on, or its last byte is at fault
-abbrev Stepped : List ℕ → Step → Type 0
-Stepped w (next due) = Reached due w
-Stepped w (wrong k) = Unit {0}
-
-stepped : (due : Due) (b : ℕ) (w : List ℕ) → Reached due w → Stepped (then w b) (step due b)
-unfolding step
-stepped primeCommand b w h = picked (Stepped (then w b)) (eqb b 0x01) (λ t. ap₂ then h (eqb→eq b 0x01 t)) (λ t. tt)
-stepped primeOperand p w h = picked (Stepped (then w p)) (taken p) (λ t. (t, ap (λ x. then x p) h)) (λ t. tt)
-stepped (degreeCommand p) b w (k, h) = picked (Stepped (then w b)) (eqb b 0x02) (λ t. (k, ap₂ then h (eqb→eq b 0x02 t))) (λ t. tt)
-stepped (degreeOperand p) n w (k, h) =
-    picked (Stepped (then w n)) (ltb 0 n && leb n degreeLimit)
-    (λ t. rw h (begun-none p n k (ltb→lt 0 n (left (ltb 0 n) (leb n degreeLimit) t)) (leb→le n degreeLimit (right (ltb 0 n) (leb n degreeLimit) t))))
-    (λ t. tt)
-stepped (command s least) b w h =
-    picked (Stepped (then w b)) (eqb b 0x03) (λ t. (w, h, ap (then w) (eqb→eq b 0x03 t)))
-    (λ t. picked (Stepped (then w b)) (eqb b 0x0F) (λ t. (h .good, ap (then w) (eqb→eq b 0x0F t) ∙ begun-end h)) (λ t. tt))
-stepped (indexOperand s least) i w (v, h, e) =
-    let inside : Bool = ltb i (degree (s .poly)) in
-    picked (Stepped (then w i)) (inside && leb least i)
-    (λ t.
-    let l : i < degree (s .poly) = ltb→lt i (degree (s .poly)) (left inside (leb least i) t) in
-    (v, begun-later h i (leb→le least i (right inside (leb least i) t)) (omega arith), l, ap (λ x. then x i) e ∙ append-snoc v 0x03 (i ∷ [])))
-    (λ t. tt)
-stepped (valueOperand s i) b w (v, h, l, e) =
-    let small : Bool = ltb b (s .prime * s .prime) in
-    picked (Stepped (then w b)) (ltb 0 b && small)
-    (λ t.
-    subst (Begun (withCoefficient s i b) (suc i)) (sym (ap (λ x. then x b) e ∙ append-assoc v (0x03 ∷ i ∷ []) (b ∷ [])))
-    (begun-set h l b (ltb→lt 0 b (left (ltb 0 b) small t)) (ltb→lt b (s .prime * s .prime) (right (ltb 0 b) small t))))
-    (λ t. tt)
-stepped (nothingMore s) b w h = tt
-
--- what reading the bytes w gives
-abbrev Read : List ℕ → Reading → Type 0
-Read w (accepted s) = GoodSheet s × (w ≡ sheetBytes s)
-Read w (fault k at) = Unit {0}
-
-read-end : (due : Due) (at : ℕ) (w : List ℕ) → Reached due w → Read w (atEnd due at)
-unfolding atEnd
-read-end primeCommand at w h = tt
-read-end primeOperand at w h = tt
-read-end (degreeCommand p) at w h = tt
-read-end (degreeOperand p) at w h = tt
-read-end (command s least) at w h = tt
-read-end (indexOperand s least) at w h = tt
-read-end (valueOperand s i) at w h = tt
-read-end (nothingMore s) at w h = h
-
-reads : (due : Due) (at : ℕ) (w bytes : List ℕ) → Reached due w → Read (w ++ bytes) (readFrom due at bytes)
-unfolding readFrom
-reads due at w [] h = rw (append-nil w) (read-end due at w h)
-reads due at w (b ∷ bytes) h = go (step due b) (stepped due b w h) (λ due′ h′. reads due′ (suc at) (then w b) bytes h′)
-  where
-    go : (r : Step) → Stepped (then w b) r → ((due′ : Due) → Reached due′ (then w b) → Read (then w b ++ bytes) (readFrom due′ (suc at) bytes))
-        → Read (w ++ (b ∷ bytes)) (elim r [ next due′ ↦ readFrom due′ (suc at) bytes | wrong k ↦ fault k at ])
-    go (next due′) c f = rw (append-snoc w b bytes) at (f due′ c)
-    go (wrong k) c f = tt
+-- ---- what is accepted
 
 module _ (bytes : List ℕ) (s : Sheet) (e : readSheet bytes ≡ accepted s) where
-  reading : Read bytes (accepted s)
-  unfolding readSheet
-  reading = subst (Read bytes) e (reads primeCommand 0 [] bytes refl)
+  reading : Found bytes s 0 []
+  unfolding readSheet whole
+  reading = go (sheet 0 bytes) (sheet-sound bytes) e
+    where
+      is : {t : Sheet} → accepted t ≡ accepted s → t ≡ s
+      is q = cc
+
+      go : (x : Read Sheet) → Holds (Found bytes) x → whole x ≡ accepted s → Found bytes s 0 []
+      go (got t after []) h q = subst (λ (u : Sheet). Found bytes u 0 []) (is q) h
+      go (got t after (b ∷ rest)) h q = absurd (let z : _≡_ {A = ℕ} 0 1 = cc in omega arith)
+      go (stop k place) h q = absurd (let z : _≡_ {A = ℕ} 0 1 = cc in omega arith)
 
   pub read-is-good : GoodSheet s
   read-is-good = reading .0
 
   pub read-is-written : bytes ≡ sheetBytes s
-  read-is-written = reading .1
+  read-is-written = reading .1 ∙ append-nil (sheetBytes s)
+
+pub written-is-read : (s : Sheet) → GoodSheet s → readSheet (sheetBytes s) ≡ accepted s
+unfolding readSheet
+written-is-read s g =
+    ap (λ (bytes : List ℕ). whole (sheet 0 bytes)) (sym (append-nil (sheetBytes s))) ∙ rw (sheet-complete s g []) (unfold whole in refl)
+
+-- "Indices rise strictly and values are not 0, so a polynomial has one sheet"
+pub accepted-exactly : (bytes : List ℕ) (s : Sheet) → (readSheet bytes ≡ accepted s) ↔ (GoodSheet s × (bytes ≡ sheetBytes s))
+accepted-exactly bytes s = ((λ e. (read-is-good bytes s e, read-is-written bytes s e)), (λ (g, e). ap readSheet e ∙ written-is-read s g))

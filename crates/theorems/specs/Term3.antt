@@ -29,15 +29,14 @@ use Rattle.theorems.specs.Reductions.{digit-lift}
 use Rattle.theorems.specs.Items.{items}
 use Rattle.theorems.specs.PartForm.{base-monic}
 use Rattle.theorems.specs.PartValues.{values}
-use Rattle.theorems.specs.SheetsRead.{read-is-good, read-is-written}
-use Rattle.theorems.specs.SheetsBothWays.{accepted-exactly}
+use Rattle.theorems.specs.SheetsRead.{read-is-good, read-is-written, accepted-exactly}
 use Rattle.theorems.specs.SheetLength.{fault-place, long-refused}
 use Rattle.theorems.specs.AnswerLayout.{sheetParts}
 use Rattle.theorems.specs.AnswerReadBack.{MonicFactors, list-back, total-back, different-back, longest-in}
 use Rattle.theorems.specs.PartShapes.{PartShape, partDegrees, records}
 use Rattle.theorems.specs.AnswerSize.{answer-fits, answer-is-bytes}
-use Rattle.theorems.specs.Reader as reader
-use Rattle.theorems.specs.Reader.{split-written}
+use Rattle.theorems.specs.AnswerReader as reader
+use Rattle.theorems.specs.AnswerReader.{split-written}
 use Rattle.theorems.specs.AllParts.{Known, known, parts-monic}
 use Rattle.theorems.specs.LongestHolds.{longest, different-records, part-longest}
 use Rattle.theorems.specs.SettingsCounted.{settings-counted}

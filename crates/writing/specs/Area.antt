@@ -8,7 +8,7 @@ use native.Mathlib.Nat.{add-zero}
 use lib.ListN.{length, take, drop, set, length-append, length-drop, take-append-drop}
 use lib.Seq.{take-at, drop-append-add, drop-drop, length-take-le, sets-eq}
 use Rattle.factorisation.specs.Members.{All}
-use Rattle.theorems.specs.AnswerSize.{Byte}
+use Rattle.theorems.specs.CommandBytes.{Byte}
 
 pub record Wrote (old new : List ℕ) (at : ℕ) (bytes : List ℕ) (after : ℕ) : Type 0 where
   pub area : new ≡ take at old ++ bytes ++ drop (at + length bytes) old

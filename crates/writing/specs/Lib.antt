@@ -1,3 +1,4 @@
 pub mod Area
 pub mod Turns
 pub mod Coefficients
+pub mod Sheets

@@ -1,11 +1,16 @@
 // Sheets and other bytes written into a lent area: each writer begins at a place and gives the place after its bytes.
 // What is public is so for the crates above, and no entry point of the library.
 ghost use mathlib.Core.List.{[], _∷_};
-ghost use Prim.Native.Nat.{ℕ, suc, _+_, _≤_, _<_};
-ghost use lib.ListN.{length, getD, take};
-ghost use Rattle.specification.specs.Sheets.{sheetOf, coefficientBytes, sheetBytes};
-ghost use Rattle.specification.specs.Promises.{sheetLimit};
+ghost use Prim.Native.Nat.{_+_, _≤_, _<_};
+ghost use lib.ListN.{length, take};
+ghost use Rattle.specification.specs.Coefficients.{valueBytes};
+ghost use Rattle.specification.specs.Sheets.{sheetBytes};
+ghost use Rattle.theorems.specs.CoefficientBytes.{coefficientBytes};
+ghost use Rattle.theorems.specs.SheetLayout.{headBytes, lastBytes};
+ghost use Rattle.commands.specs.Views.{asSheet};
 ghost use Rattle.writing.specs.Area.{Wrote, Room};
+use commands::Sheet;
+use commands::coefficient_code;
 
 // One byte.
 pub fn put(out: &mut [u8], at: usize, b: u8) -> usize
@@ -16,14 +21,22 @@ pub fn put(out: &mut [u8], at: usize, b: u8) -> usize
     at + 1
 }
 
+// A command of one operand.
+fn put_two(out: &mut [u8], at: usize, a: u8, b: u8) -> usize
+    requires { ⌜ at + 2 ≤ length (now out) ⌝ }
+    ensures { λ r. ⌜ Wrote (now (out .entry)) (now (out .exit)) at (a ∷ b ∷ []) r ⌝ }
+{
+    let second = put(out, at, a);
+    put(out, second, b)
+}
+
 // A command of two operands.
 pub fn put_three(out: &mut [u8], at: usize, a: u8, b: u8, c: u8) -> usize
     requires { ⌜ at + 3 ≤ length (now out) ⌝ }
     ensures { λ r. ⌜ Wrote (now (out .entry)) (now (out .exit)) at (a ∷ b ∷ c ∷ []) r ⌝ }
 {
     let second = put(out, at, a);
-    let third = put(out, second, b);
-    put(out, third, c)
+    put_two(out, second, b, c)
 }
 
 // A command of three operands, or two of one.
@@ -35,39 +48,66 @@ pub fn put_four(out: &mut [u8], at: usize, a: u8, b: u8, c: u8, d: u8) -> usize
     put_three(out, second, b, c, d)
 }
 
-// The 0x03 command of the i-th coefficient, unless it is 0.
-fn write_coefficient(out: &mut [u8], at: usize, i: usize, v: u16) -> usize
-    requires { ⌜ Room (now out) at (coefficientBytes i (v ∷ [])) ⌝ }
-    ensures { λ r. ⌜ Wrote (now (out .entry)) (now (out .exit)) at (coefficientBytes i (v ∷ [])) r ⌝ }
+// A coefficient's value, as wide as the prime p has it.
+fn write_value(out: &mut [u8], at: usize, p: u8, v: u16) -> usize
+    requires { ⌜ Room (now out) at (valueBytes p v) ⌝ }
+    ensures { λ r. ⌜ Wrote (now (out .entry)) (now (out .exit)) at (valueBytes p v) r ⌝ }
+{
+    put(out, at, v as u8)
+}
+
+// The command of the i-th coefficient, unless it is 0.
+fn write_coefficient(out: &mut [u8], at: usize, p: u8, i: usize, v: u16) -> usize
+    requires { ⌜ Room (now out) at (coefficientBytes p i (v ∷ [])) ⌝ }
+    ensures { λ r. ⌜ Wrote (now (out .entry)) (now (out .exit)) at (coefficientBytes p i (v ∷ [])) r ⌝ }
 {
     if v == 0 {
         at
     } else {
-        put_three(out, at, 0x03, i as u8, v as u8)
+        let code = coefficient_code(p);
+        let next = put_two(out, at, code, i as u8);
+        write_value(out, next, p, v)
     }
 }
 
-// The 0x03 commands of the first d coefficients, "index rising".
-pub fn write_coefficients(out: &mut [u8], at: usize, coefs: [u16; 33], d: usize) -> usize
-    requires { ⌜ (d ≤ 33) × Room (now out) at (coefficientBytes 0 (take d coefs)) ⌝ }
-    ensures { λ r. ⌜ Wrote (now (out .entry)) (now (out .exit)) at (coefficientBytes 0 (take d coefs)) r ⌝ }
+// The commands of the first d coefficients, "index rising".
+pub fn write_coefficients(out: &mut [u8], at: usize, p: u8, coefs: [u16; 33], d: usize) -> usize
+    requires { ⌜ (d ≤ 33) × Room (now out) at (coefficientBytes p 0 (take d coefs)) ⌝ }
+    ensures { λ r. ⌜ Wrote (now (out .entry)) (now (out .exit)) at (coefficientBytes p 0 (take d coefs)) r ⌝ }
 {
     let mut after = at;
     let mut i: usize = 0;
     while i < d {
-        let next = write_coefficient(out, after, i, coefs[i]);
+        let next = write_coefficient(out, after, p, i, coefs[i]);
         after = next;
         i += 1;
     }
     after
 }
 
-// The sheet of the prime p and the monic polynomial of degree d in `coefs`.
-pub fn write_sheet(out: &mut [u8], p: u8, d: usize, coefs: [u16; 33]) -> usize
-    requires { ⌜ (d ≤ 32) × ((k : ℕ) → k < d → getD coefs k 0 < 256) × (sheetLimit ≤ length (now out)) ⌝ }
-    ensures { λ r. ⌜ Wrote (now (out .entry)) (now (out .exit)) 0 (sheetBytes (sheetOf p (take (suc d) coefs))) r ⌝ }
+// 0x01 and 0x02, with which sheets and answers begin.
+pub fn write_head(out: &mut [u8], at: usize, s: Sheet) -> usize
+    requires { ⌜ (s .degree ≤ 32) × Room (now out) at (headBytes (asSheet s)) ⌝ }
+    ensures { λ r. ⌜ Wrote (now (out .entry)) (now (out .exit)) at (headBytes (asSheet s)) r ⌝ }
 {
-    let first = put_four(out, 0, 0x01, p, 0x02, d as u8);
-    let last = write_coefficients(out, first, coefs, d);
-    put(out, last, 0x0F)
+    put_four(out, at, 0x01, s.prime, 0x02, s.degree as u8)
+}
+
+// What follows a sheet's coefficients: the end.
+fn write_last(out: &mut [u8], at: usize, s: Sheet) -> usize
+    requires { ⌜ Room (now out) at (lastBytes (asSheet s)) ⌝ }
+    ensures { λ r. ⌜ Wrote (now (out .entry)) (now (out .exit)) at (lastBytes (asSheet s)) r ⌝ }
+{
+    put(out, at, 0x0F)
+}
+
+// A sheet, from place 0 on.
+pub fn write_sheet(out: &mut [u8], s: Sheet) -> usize
+    requires { ⌜ (s .degree ≤ 32) × Room (now out) 0 (sheetBytes (asSheet s)) ⌝ }
+    ensures { λ r. ⌜ Wrote (now (out .entry)) (now (out .exit)) 0 (sheetBytes (asSheet s)) r ⌝ }
+{
+    let coefs = s.coefs;
+    let first = write_head(out, 0, s);
+    let last = write_coefficients(out, first, s.prime, coefs, s.degree);
+    write_last(out, last, s)
 }

@@ -1,50 +1,57 @@
 -- `answers::write_answer` meets its contract.
 -- Assumes nothing.
-use mathlib.Core.Path.{refl}
-use mathlib.Core.List.{[], _∷_, _++_}
-use mathlib.Core.List.{List·Memᴰ·head as here, List·Memᴰ·tail as there}
-use native.Mathlib.Omega.{arith}
+use mathlib.Core.Path.{_≡_, ap}
+use mathlib.Core.List.{_++_}
 use borrow.Author.Needs.{needs}
+use Rattle.specification.specs.Totals.{totalsOf}
+use Rattle.theorems.specs.AnswerLayout.{endBytes}
+use Rattle.theorems.specs.SheetLayout.{headBytes}
+use Rattle.commands.specs.Views.{asSheet}
 use Rattle.pieces.specs.Views.{held}
-use Rattle.writing.specs.Area.{wrote-more, wrote-as, room-first, room-next}
-use Rattle.answers.specs.Layout.{partsBytes, endOf, answer-is}
-use Rattle.answers.specs.Writable.{writable-countable, answer-room}
+use Rattle.writing.specs.Area.{Room, wrote-more, wrote-as, room-as, room-first, room-next}
+use Rattle.answers.specs.Layout.{partsBytes, asTotals, answer-is}
+use Rattle.answers.specs.Writable.{heldParts, writable-countable, answer-room}
 use Rattle.answers.proofs.write_answer.Statement.{statement}
 use Rattle.answers.proofs.write_answer.Tie as tie
+
+abbrev counted : tie.After-write-head → tie.After-count-totals
+counted c = c .before .before
+
+abbrev start : tie.After-write-head → tie.Start
+start c = counted c .before .before
+
+abbrev headed : tie.After-write-parts → tie.After-write-head
+headed c = c .before .before .before .before
+
+-- the parts and the end have room after the head
+rest-room : (c : tie.After-write-head) → let a = start c .args in
+    Room (c .write-head .last .0) (c .write-head .result)
+    (partsBytes (asSheet (a .s)) (held (a .parts)) ++ endBytes (asSheet (a .s)) (totalsOf (heldParts (a .parts))))
+rest-room c =
+    let begun = start c in room-next (headBytes (asSheet (begun .args .s))) _ (answer-room (begun .pre .0) (begun .pre .1)) (c .write-head .ensures)
+
+-- the end is that of the totals counted
+counted-end : (c : tie.After-write-head)
+    → endBytes (asSheet (start c .args .s)) (asTotals (counted c .count-totals .result))
+    ≡ endBytes (asSheet (start c .args .s)) (totalsOf (heldParts (start c .args .parts)))
+counted-end c = ap (endBytes (asSheet (start c .args .s))) (counted c .count-totals .ensures)
 
 pub write-answer-spec : {M : Type 1} → statement M
 write-answer-spec =
     tie.close
     (tie.spec
     (λ c κs. (c .before .pre .0 .count, writable-countable (c .before .pre .0)))  -- count-totals-requires
-    (λ c. omega (arith, c .before .before .before .pre .0 .fits .low _ (there (there (there (here refl))))))  -- cast-put-four
-    (λ c κs. search needs)  -- put-four-requires
+    (λ c κs. let (writable, room) = c .before .before .before .pre in (writable .degree, room-first _ _ (answer-room writable room)))  -- write-head-requires
     (λ c κs.
-    let after-four = c .before .before .before in
-    let counted = after-four .before .before .count-totals in
-    let start = after-four .before .before .before .before in
-    let header = 0x01 ∷ start .args .p ∷ 0x02 ∷ start .args .d ∷ [] in
-    let parts = partsBytes (held (start .args .parts)) in
-    let room = answer-room (start .pre .0) (counted .ensures) (start .pre .1) in (
-      start .pre .0 .count,
-      start .pre .0 .degrees,
-      room-next header parts (room-first (header ++ parts) (endOf (counted .result)) room) (after-four .put-four .ensures),
-    ))  -- write-parts-requires
+    let written = c .before .before .before in
+    let writable = start written .pre .0 in
+    (writable .count, writable .degrees, room-first _ _ (rest-room written)))  -- write-parts-requires
     (λ c κs.
-    let after-parts = c .before .before .before in
-    let after-four = after-parts .before .before .before .before in
-    let counted = after-four .before .before .count-totals in
-    let start = after-four .before .before .before .before in
-    let header = 0x01 ∷ start .args .p ∷ 0x02 ∷ start .args .d ∷ [] in
-    let parts = partsBytes (held (start .args .parts)) in
-    let room = answer-room (start .pre .0) (counted .ensures) (start .pre .1) in
-    room-next (header ++ parts) (endOf (counted .result)) room
-    (wrote-more (after-four .put-four .ensures) (after-parts .write-parts .ensures)))  -- write-end-requires
+    let written = c .before .before .before in
+    room-as (counted-end (headed written)) (room-next _ _ (rest-room (headed written)) (written .write-parts .ensures)))  -- write-end-requires
     (λ c. search needs)  -- same-length
     (λ c.
-    let after-parts = c .before .before .before .before .before .before in
-    let after-four = after-parts .before .before .before .before in
-    let counted = after-four .before .before .count-totals in
-    let start = after-four .before .before .before .before in
-    let written = wrote-more (after-four .put-four .ensures) (after-parts .write-parts .ensures) in
-    wrote-as (answer-is _ _ (held (start .args .parts)) (counted .ensures)) (wrote-more written (c .before .before .write-end .ensures))))  -- returns
+    let written = c .before .before .before .before .before .before in
+    let ended = wrote-as (counted-end (headed written)) (c .before .before .write-end .ensures) in
+    wrote-as (answer-is _ (held (start (headed written) .args .parts)))
+    (wrote-more (headed written .write-head .ensures) (wrote-more (written .write-parts .ensures) ended))))  -- returns

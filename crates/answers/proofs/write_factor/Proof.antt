@@ -1,36 +1,45 @@
 -- `answers::write_factor` meets its contract.
 -- Assumes nothing.
-use mathlib.Core.Path.{refl}
-use mathlib.Core.List.{[], _∷_}
+use mathlib.Core.Path.{_≡_, refl}
+use mathlib.Core.List.{List, [], _∷_, _++_}
 use mathlib.Core.List.{List·Memᴰ·head as here, List·Memᴰ·tail as there}
+use Prim.Native.Nat.{ℕ}
 use native.Mathlib.Omega.{arith}
+use lib.ListN.{take}
 use borrow.Author.Needs.{needs}
-use Rattle.writing.specs.Area.{wrote-more, wrote-as, room-as, room-next}
+use Rattle.theorems.specs.CoefficientBytes.{coefficientBytes}
+use Rattle.theorems.specs.AnswerLayout.{factorBytes}
+use Rattle.verdicts.specs.declared.Factor.{Factor}
+use Rattle.verdicts.specs.Views.{asFactor}
+use Rattle.writing.specs.Area.{Room, wrote-more, wrote-as, room-as, room-next}
 use Rattle.answers.specs.Layout.{factor-is}
 use Rattle.answers.proofs.write_factor.Statement.{statement}
 use Rattle.answers.proofs.write_factor.Tie as tie
+
+-- 0x12, and the coefficients
+abbrev bytes : ℕ → Factor → List ℕ
+bytes p q = (0x12 ∷ q .degree ∷ q .times ∷ []) ++ coefficientBytes p 0 (take (q .degree) (q .coefs))
+
+abbrev start : tie.After-put-three → tie.Start
+start c = c .before .before .before .before .before .before
+
+whole : (c : tie.Start) → bytes (c .args .p) (c .args .q) ≡ factorBytes (c .args .p) (asFactor (c .args .q))
+whole c = factor-is (c .args .p) (c .args .q) (search needs) (c .pre .0)
+
+room : (c : tie.Start) → Room (c .args .out .now) (c .args .at) (bytes (c .args .p) (c .args .q))
+room c = room-as (whole c) (c .pre .1)
 
 pub write-factor-spec : {M : Type 1} → statement M
 write-factor-spec =
     tie.close
     (tie.spec
     (λ c. search needs)  -- cast-put-three
-    (λ c.
-    let start = c .before .before .before .before .before in
-    omega (arith, room-as (factor-is (start .args .q) (search needs) (start .pre .0)) (start .pre .1) .low _ (there (there (here refl)))))  -- cast-put-three-2
+    (λ c. omega (arith, room (c .before .before .before .before .before) .low _ (there (there (here refl)))))  -- cast-put-three-2
+    (λ c κs. omega (arith, room (c .before .before .before .before .before) .fits))  -- put-three-requires
     (λ c κs.
-    let start = c .before .before .before .before .before in
-    omega (arith, room-as (factor-is (start .args .q) (search needs) (start .pre .0)) (start .pre .1) .fits))  -- put-three-requires
-    (λ c κs.
-    let start = c .before .before .before .before .before .before .before .before .before in
-    let q = start .args .q in (
-      search needs,
-      room-next (0x12 ∷ q .degree ∷ q .times ∷ []) _ (room-as (factor-is q (search needs) (start .pre .0)) (start .pre .1))
-          (c .before .before .before .put-three .ensures),
-    ))  -- write-coefficients-requires
+    let headed = c .before .before .before in
+    (search needs, room-next (_ ∷ _ ∷ _ ∷ []) _ (room (start headed)) (headed .put-three .ensures)))  -- write-coefficients-requires
     (λ c. search needs)  -- same-length
     (λ c.
-    let after-three = c .before .before .before .before .before .before in
-    let start = after-three .before .before .before .before .before .before in
-    wrote-as (factor-is (start .args .q) (search needs) (start .pre .0))
-    (wrote-more (after-three .put-three .ensures) (c .before .before .write-coefficients .ensures))))  -- returns
+    let headed = c .before .before .before .before .before .before in
+    wrote-as (whole (start headed)) (wrote-more (headed .put-three .ensures) (c .before .before .write-coefficients .ensures))))  -- returns

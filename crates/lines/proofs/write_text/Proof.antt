@@ -1,40 +1,51 @@
 -- `lines::write_text` meets its contract.
 -- Assumes nothing.
-use mathlib.Core.Path.{sym}
+use mathlib.Core.Path.{_≡_, sym}
+use mathlib.Core.List.{List}
+use Prim.Native.Nat.{ℕ}
 use borrow.Author.Needs.{needs}
-use Rattle.theorems.specs.SheetsRead.{read-is-good}
-use Rattle.sheets.specs.Laws.{read-accepted, read-refused}
+use Rattle.specification.specs.Text.{answerText, refusalText, printed}
+use Rattle.commands.specs.Views.{asSheet}
+use Rattle.sheets.specs.Laws.{Read, read-accepted, read-refused}
 use Rattle.writing.specs.Area.{wrote-as, room-as}
 use Rattle.lines.specs.TextSize.{sized-room}
 use Rattle.lines.specs.Printed.{printed-accepted, printed-refused, printed-sized}
 use Rattle.lines.proofs.write_text.Statement.{statement}
 use Rattle.lines.proofs.write_text.Tie as tie
 
+abbrev start : tie.After-read-sheet → tie.Start
+start c = c .before .before .before
+
+abbrev sheet : tie.After-read-sheet → List ℕ
+sheet c = start c .args .sheet .now
+
+-- ---- a fault
+
+abbrev faulty : tie.Then1 → tie.After-read-sheet
+faulty c = c .before .before
+
+refusal : (c : tie.Then1) → let r = faulty c .read-sheet .result in refusalText (r .number) (r .place) ≡ printed (sheet (faulty c))
+refusal c = let n = faulty c in sym (printed-refused (sheet n) (read-refused (sheet n) _ (n .read-sheet .ensures) (c .if1 .taken) .reading))
+
+-- ---- a sheet that is accepted
+
+abbrev good : tie.Else1 → tie.After-read-sheet
+good c = c .before .before
+
+accepted : (c : tie.Else1) → Read (sheet (good c)) (good c .read-sheet .result)
+accepted c = let n = good c in read-accepted (sheet n) _ (n .read-sheet .ensures) (c .if1 .left)
+
+lines : (c : tie.Else1) → answerText (asSheet (good c .read-sheet .result .sheet)) ≡ printed (sheet (good c))
+lines c = sym (printed-accepted (sheet (good c)) (accepted c .reading))
+
 pub write-text-spec : {M : Type 1} → statement M
 write-text-spec =
     tie.close
     (tie.spec
     (λ c κs. search needs)  -- read-sheet-requires
-    (λ c κs.
-    let read = c .before .before .before in
-    let start = read .before .before .before in
-    let sheet = start .args .sheet .now in
-    let refused = read-refused sheet _ (read .read-sheet .ensures) (c .before .if1 .taken) in
-    room-as (sym (printed-refused sheet (refused .reading))) (sized-room (printed-sized sheet) (start .pre)))  -- refusal-text-requires
+    (λ c κs. let n = faulty (c .before) in room-as (refusal (c .before)) (sized-room (printed-sized (sheet n)) (start n .pre)))  -- refusal-text-requires
     (λ c. search needs)  -- same-length
-    (λ c.
-    let read = c .before .before .before .before .before .before in
-    let sheet = read .before .before .before .args .sheet .now in
-    let refused = read-refused sheet _ (read .read-sheet .ensures) (c .before .before .before .before .if1 .taken) in
-    wrote-as (sym (printed-refused sheet (refused .reading))) (c .before .before .refusal-text .ensures))  -- returns
-    (λ c κs.
-    let read = c .before .before .before .before in
-    let start = read .before .before .before in
-    let accepted = read-accepted (start .args .sheet .now) _ (read .read-sheet .ensures) (c .before .before .if1 .left) in
-    (accepted .monic, read-is-good _ _ (accepted .reading), start .pre))  -- answer-text-requires
+    (λ c. wrote-as (refusal (c .before .before .before .before)) (c .before .before .refusal-text .ensures))  -- returns
+    (λ c κs. let e = c .before .before in (accepted e .monic, accepted e .good, start (good e) .pre))  -- answer-text-requires
     (λ c. search needs)  -- same-length-2
-    (λ c.
-    let read = c .before .before .before .before .before .before .before in
-    let sheet = read .before .before .before .args .sheet .now in
-    let accepted = read-accepted sheet _ (read .read-sheet .ensures) (c .before .before .before .before .before .if1 .left) in
-    wrote-as (sym (printed-accepted sheet (accepted .reading))) (c .before .before .answer-text .ensures)))  -- returns-2
+    (λ c. wrote-as (lines (c .before .before .before .before .before)) (c .before .before .answer-text .ensures)))  -- returns-2

@@ -6,7 +6,7 @@ use native.Mathlib.Omega.{arith}
 use borrow.Author.Needs.{needs}
 use Rattle.specification.specs.Text.{ascii, item}
 use Rattle.answers.specs.declared.Totals.{Totals}
-use Rattle.writing.specs.Area.{wrote-more, wrote-as, room-as, room-first, room-next}
+use Rattle.writing.specs.Area.{Wrote, Room, wrote-more, wrote-as, room-as, room-first, room-next}
 use Rattle.lines.specs.Layout.{totals-are}
 use Rattle.lines.proofs.write_totals.Statement.{statement}
 use Rattle.lines.proofs.write_totals.Tie as tie
@@ -17,6 +17,19 @@ items t = item "total " (t .factors) ++ item " different " (t .different)
 abbrev free : Totals → List ℕ
 free t = item " free " (t .free)
 
+room : (c : tie.Start) → let t = c .args .t in Room (c .args .out .now) (c .args .at) (items t ++ free t ++ ascii "\n")
+room c = room-as (totals-are (c .args .t)) (c .pre)
+
+abbrev start : tie.After-write-items → tie.Start
+start c = c .before .before .before .before .before
+
+abbrev counted : tie.After-write-item → tie.After-write-items
+counted c = c .before .before .before .before .before
+
+written : (c : tie.After-write-item) → let a = start (counted c) .args in
+    Wrote (a .out .now) (c .write-item .last .0) (a .at) (items (a .t) ++ free (a .t)) (c .write-item .result)
+written c = wrote-more {bytes = items (start (counted c) .args .t)} (counted c .write-items .ensures) (c .write-item .ensures)
+
 pub write-totals-spec : {M : Type 1} → statement M
 write-totals-spec =
     tie.close
@@ -24,28 +37,16 @@ write-totals-spec =
     (λ c. search needs)  -- slice-aggregate-write-items
     (λ c. search needs)  -- slice-aggregate-write-items-2
     (λ c κs.
-    let start = c .before .before .before .before in
-    let t = start .args .t in
-    let room = room-first (items t ++ free t) (ascii "\n") (room-as (totals-are t) (start .pre)) in
-    room-first (items t) (free t) room)  -- write-items-requires
+    let begun = c .before .before .before .before in
+    room-first _ (free (begun .args .t)) (room-first _ (ascii "\n") (room begun)))  -- write-items-requires
     (λ c. search needs)  -- slice-aggregate-write-item
     (λ c κs.
-    let after-items = c .before .before .before .before in
-    let start = after-items .before .before .before .before .before in
-    let t = start .args .t in
-    let room = room-first (items t ++ free t) (ascii "\n") (room-as (totals-are t) (start .pre)) in
-    room-next (items t) (free t) room (after-items .write-items .ensures))  -- write-item-requires
-    (λ c κs.
-    let after-free = c .before .before .before in
-    let after-items = after-free .before .before .before .before .before in
-    let start = after-items .before .before .before .before .before in
-    let t = start .args .t in
-    let written = wrote-more {bytes = items t} (after-items .write-items .ensures) (after-free .write-item .ensures) in
-    omega (arith, room-next (items t ++ free t) (ascii "\n") (room-as (totals-are t) (start .pre)) written .fits))  -- put-requires
+    let n = c .before .before .before .before in
+    let t = start n .args .t in
+    room-next (items t) (free t) (room-first _ (ascii "\n") (room (start n))) (n .write-items .ensures))  -- write-item-requires
+    (λ c κs. let n = c .before .before .before in omega (arith, room-next _ (ascii "\n") (room (start (counted n))) (written n) .fits))  -- put-requires
     (λ c. search needs)  -- same-length
     (λ c.
-    let after-free = c .before .before .before .before .before .before in
-    let after-items = after-free .before .before .before .before .before in
-    let t = after-items .before .before .before .before .before .args .t in
-    let written = wrote-more {bytes = items t} (after-items .write-items .ensures) (after-free .write-item .ensures) in
-    wrote-as (totals-are t) (wrote-more {bytes = items t ++ free t} written (c .before .before .put .ensures))))  -- returns
+    let n = c .before .before .before .before .before .before in
+    let t = start (counted n) .args .t in
+    wrote-as (totals-are t) (wrote-more {bytes = items t ++ free t} (written n) (c .before .before .put .ensures))))  -- returns

@@ -1,55 +1,71 @@
 -- `reading::read_coefficients` meets its contract.
 -- Assumes nothing.
-use Prim.Native.Nat.{_+_, _-_}
+use mathlib.Core.Path.{_≡_, sym, _∙_, ap}
+use Prim.Native.Nat.{_-_, _≤_, _<_}
 use native.Mathlib.Omega.{arith}
-use lib.ListN.{length}
+use lib.ListN.{length, getD}
 use borrow.Author.Needs.{needs}
-use Rattle.reading.specs.ReadingCoefficients.{
-  Underway,
-  underway-first,
-  underway-more,
-  coefficients-found,
-  bytes-missing,
-  operands-missing,
-  index-high,
-  value-high,
-}
+use borrow.Author.Tests.{not-true, not-false}
+use Rattle.specification.specs.Commands.{operandCount}
+use Rattle.specification.specs.Coefficients.{coefficientCode}
+use Rattle.commands.specs.Table.{count-low}
+use Rattle.reading.specs.ReadingCoefficients.{Underway, index-below, underway-first, underway-more, found-at-end, found-before, not-read}
 use Rattle.reading.proofs.read_coefficients.Statement.{statement}
 use Rattle.reading.proofs.read_coefficients.Tie as tie
 
 abbrev Inv-loop : tie.InvT-loop
-Inv-loop answer at degree modulus coefs₀ next₀ coefs next = Underway answer at degree modulus coefs next
+Inv-loop answer at degree prime code coefs₀ next₀ coefs next = (code ≡ coefficientCode prime) × Underway answer at degree prime coefs next
 
 abbrev μ-loop : tie.MeasureT-loop
-μ-loop answer at degree modulus coefs₀ next₀ coefs next = length answer - next
+μ-loop answer at degree prime code coefs₀ next₀ coefs next = length answer - next
+
+-- where the command at the place is a coefficient's
+abbrev at-loop : tie.Else1 Inv-loop μ-loop → tie.At-loop Inv-loop μ-loop
+at-loop c = c .before .before .before
+
+abbrev start : tie.At-loop Inv-loop μ-loop → tie.Start Inv-loop μ-loop
+start c = c .before .before .before .before
+
+is-coefficient : (c : tie.Else1 Inv-loop μ-loop)
+    → getD (start (at-loop c) .args .answer .now) (at-loop c .loop .next) 0 ≡ coefficientCode (start (at-loop c) .args .prime)
+is-coefficient c = c .if1 .left ∙ at-loop c .loop .inv .0
+
+abbrev before-read : tie.Else2 Inv-loop μ-loop → tie.Else1 Inv-loop μ-loop
+before-read c = c .before .before .before
+
+index-low : (c : tie.Else2 Inv-loop μ-loop) → c .before .before .read-coefficient .result .index < start (at-loop (before-read c)) .args .degree
+index-low c = index-below (c .before .before .read-coefficient .ensures) (not-false _ (c .if2 .left))
+
+count-fits : (c : tie.After-operand-count Inv-loop μ-loop) → c .operand-count .result ≤ 255
+count-fits c = rw (c .operand-count .ensures) (count-low _)
 
 pub read-coefficients-spec : {M : Type 1} → statement M
 read-coefficients-spec =
     tie.close
     (tie.spec Inv-loop μ-loop
+    (λ c κs. search needs)  -- coefficient-code-requires
     (λ c κs. search needs)  -- monomial-requires
-    (λ c. rw (c .monomial .ensures) (underway-first _ _ _ _ (search needs) (search needs)))  -- loop-holds
+    (λ c. (c .before .coefficient-code .ensures, rw (c .monomial .ensures) (underway-first _ _ _ _ (search needs) (search needs))))  -- loop-holds
     (λ c. search needs)  -- shared-slice-read-if1
-    (λ c. coefficients-found _ _ _ _ (c .before .before .before .loop .inv) (c .if1 .taken))  -- returns
-    (λ c. search needs)  -- sub-if2
-    (λ c. search needs)  -- add-index
-    (λ c. search needs)  -- shared-slice-read-index
-    (λ c. omega (arith, c .shared-slice-known3 .given (c .before .before .before .before .before .loop .next + 1)))  -- cast-index
-    (λ c. search needs)  -- add-value
-    (λ c. search needs)  -- shared-slice-read-value
-    (λ c. omega (arith, c .shared-slice-known4 .given (c .before .before .before .before .before .before .loop .next + 2)))  -- cast-value
-    (λ c. search needs)  -- mul-coefs
-    (λ c. omega (arith, c .before .before .before .before .before .before .before .before .before .before .before .pre))  -- array-write-coefs
-    (λ c. search needs)  -- add-next
+    (λ c κs. (is-coefficient c, search needs))  -- read-coefficient-requires
+    (λ c.
+    let e = c .before .before .before in
+    not-read _ _ _ _ (at-loop e .loop .inv .1) (search needs) (is-coefficient e) (c .before .before .read-coefficient .ensures)
+    (not-true _ (c .if2 .taken)))  -- returns
+    (λ c. omega (arith, index-low c, start (at-loop (before-read c)) .pre))  -- mul-coefs
+    (λ c. omega (arith, index-low c, start (at-loop (before-read c)) .pre))  -- array-write-coefs
+    (λ c κs. search needs)  -- operand-count-requires
+    (λ c. omega (arith, count-fits c))  -- add-next
+    (λ c. omega (arith, count-fits c))  -- add-next-2
     (λ c. search needs)  -- loop-less
     (λ c.
-    let f = c .before .before .before .before .before in
-    underway-more _ _ _ _ (f .before .before .before .loop .inv) (f .if1 .left) (search needs) (search needs))  -- loop-again
-    (λ c. bytes-missing _ _ _ _ (c .before .loop .inv) (search needs))  -- returns-2
-    (λ c. operands-missing _ _ _ _ (c .before .before .before .before .loop .inv) (c .before .if1 .left) (omega arith))  -- returns-3
+    let e = before-read (c .before) in
+    let (code, w) = at-loop e .loop .inv in (
+      code,
+      underway-more _ _ _ _ w (search needs) (is-coefficient e) (c .before .before .before .read-coefficient .ensures)
+          (not-false _ (c .before .if2 .left)) (c .operand-count .ensures ∙ ap operandCount code),
+    ))  -- loop-again
+    (λ c. found-at-end _ _ _ _ (c .before .loop .inv .1) (c .loop-test .left))  -- returns-2
     (λ c.
-    let f = c .before .before .before .before in
-    index-high _ _ _ _ (f .before .before .before .loop .inv) (f .if1 .left) (search needs))  -- returns-4
-    (λ c.
-    let f = c .before .before .before .before .before in
-    value-high _ _ _ _ (f .before .before .before .loop .inv) (f .if1 .left) (search needs)))  -- returns-5
+    let (code, w) = c .before .before .before .loop .inv in
+    found-before _ _ _ _ w (search needs) (λ e. c .if1 .taken (e ∙ sym code))))  -- returns-3

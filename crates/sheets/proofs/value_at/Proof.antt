@@ -1,31 +1,36 @@
 -- `sheets::value_at` meets its contract.
 -- Assumes nothing.
 use mathlib.Core.Path.{refl}
-use mathlib.Core.Logic.{inl, inr, ⊎-elim}
+use mathlib.Core.Logic.{⊎-elim}
 use native.Mathlib.Omega.{arith}
 use borrow.Author.Needs.{needs}
-use Rattle.specification.specs.Sheets.{withCoefficient, command, valueOperand, atEnd}
-use Rattle.theorems.specs.SheetSteps.{value-operand, value-operand-wrong}
-use Rattle.sheets.specs.Steps.{there, goes-on, goes-wrong, leads-taken, leads-fault, leads-end}
+use Rattle.specification.specs.Coefficients.{valueTaken}
+use Rattle.theorems.specs.Operands.{value-passes, value-within}
+use Rattle.sheets.specs.Steps.{judged-taken, judged-wrong, judged-ends}
 use Rattle.sheets.proofs.value_at.Statement.{statement}
 use Rattle.sheets.proofs.value_at.Tie as tie
 
 pub value-at-spec : {M : Type 1} → statement M
-unfolding atEnd
 value-at-spec =
     tie.close
     (tie.spec
+    (λ c κs. search needs)  -- square-requires
     (λ c κs. search needs)  -- byte-at-requires
     (λ c. search needs)  -- enum-known-step
     (λ c. search needs)  -- enum-told
-    (λ c s i e. leads-end (valueOperand s i) (c .before .before .byte-at .ensures) (c .enum-told .given .1) refl refl)  -- returns
-    (λ c. search needs)  -- cast-if2
-    (λ c s i e.
-    let w = c .before .before .before .before .before .byte-at .ensures in
-    let q = c .before .before .before .step .given .1 in
-    leads-taken refl (there w q)
-    (goes-on w q (valueOperand s i) (command (withCoefficient s i _) _) (value-operand s i _ (search needs) (omega (arith, e)))))  -- returns-2
-    (λ c. search needs)  -- add-t9
-    (λ c s i e.
-    leads-fault refl (goes-wrong (c .before .before .before .before .byte-at .ensures) (c .before .before .step .given .1) (valueOperand s i) 7
-    (value-operand-wrong s i _ (⊎-elim (λ w. inr (omega (arith, e))) (λ w. inl (omega arith)) (c .if1 .came))))))  -- returns-3
+    (λ c. judged-ends (c .before .before .byte-at .ensures) 7 _ (c .enum-told .given .1))  -- returns
+    (λ c.
+    let w = c .before .before .before .before .before in
+    let s = w .before .square .ensures in
+    let p = w .before .before .before .args .prime in
+    judged-taken (w .byte-at .ensures) 7 (valueTaken p) (c .before .before .before .step .given .1) (omega (arith, s))
+    (value-passes p _ (c .before .if1 .taken) (omega (arith, s))))  -- returns-2
+    (λ c. search needs)  -- add-t10
+    (λ c.
+    let w = c .before .before .before .before in
+    let s = w .before .square .ensures in
+    let p = w .before .before .before .args .prime in
+    judged-wrong (w .byte-at .ensures) 7 (valueTaken p) (c .before .before .step .given .1)
+    (λ t.
+    let (l, m) = value-within p (c .before .before .step .given .0 .0) t in
+    ⊎-elim (λ u. omega (arith, l, m, s, u)) (λ u. omega (arith, l, m, s, u)) (c .if1 .came)) refl))  -- returns-3

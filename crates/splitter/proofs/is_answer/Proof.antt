@@ -4,7 +4,7 @@ use mathlib.Core.Path.{_≡_, subst}
 use denote.Ref.{now}
 use borrow.Author.Needs.{needs}
 use Rattle.pieces.specs.Order.{Answers}
-use Rattle.splitter.specs.Reader.{wrote-first}
+use Rattle.splitter.specs.AnswerReader.{wrote-first}
 use Rattle.splitter.proofs.is_answer.Statement.{statement}
 use Rattle.splitter.proofs.is_answer.Tie as tie
 

@@ -1,10 +1,22 @@
 -- `splitter::split` meets its contract.
 -- Assumes nothing.
+use mathlib.Core.List.{List}
+use Prim.Native.Nat.{ℕ}
 use borrow.Author.Needs.{needs}
-use Rattle.sheets.specs.Laws.{read-accepted, read-refused}
+use Rattle.sheets.specs.Laws.{Read, read-accepted, read-refused}
 use Rattle.splitter.specs.Outcomes.{called-refused, called-wrote, split-short, split-refused, split-answered}
 use Rattle.splitter.proofs.split.Statement.{statement}
 use Rattle.splitter.proofs.split.Tie as tie
+
+-- the area is long enough where the sheet is read
+abbrev enough : tie.After-read-sheet → tie.Else1
+enough c = c .before
+
+abbrev sheet : tie.After-read-sheet → List ℕ
+sheet c = enough c .before .before .before .args .sheet .now
+
+accepted : (c : tie.Else2) → let n = c .before .before in Read (sheet n) (n .read-sheet .result)
+accepted c = let n = c .before .before in read-accepted (sheet n) _ (n .read-sheet .ensures) (c .if2 .left)
 
 pub split-spec : {M : Type 1} → statement M
 split-spec =
@@ -15,15 +27,15 @@ split-spec =
     (λ c κs. search needs)  -- read-sheet-requires
     (λ c κs. search needs)  -- refused-requires-2
     (λ c.
-    let r = read-refused _ _ (c .before .before .before .read-sheet .ensures) (c .before .if2 .taken) in
-    called-refused (split-refused _ _ (c .before .before .before .before .if1 .left) (r .reading)) (c .refused2 .ensures))  -- returns-2
+    let n = c .before .before .before in
+    let r = read-refused (sheet n) _ (n .read-sheet .ensures) (c .before .if2 .taken) in
+    called-refused (split-refused _ _ (enough n .if1 .left) (r .reading)) (c .refused2 .ensures))  -- returns-2
     (λ c κs.
-    let r = read-accepted _ _ (c .before .before .before .before .read-sheet .ensures) (c .before .before .if2 .left) in
-    (r .monic, c .before .before .before .before .before .if1 .left))  -- answer-to-requires
+    let e = c .before .before in
+    (accepted e .monic, accepted e .good, enough (e .before .before) .if1 .left))  -- answer-to-requires
     (λ c κs. search needs)  -- success-requires
     (λ c. search needs)  -- same-length
     (λ c.
-    let r = read-accepted _ _ (c .before .before .before .before .before .before .before .before .read-sheet .ensures)
-    (c .before .before .before .before .before .before .if2 .left) in
-    called-wrote (split-answered _ _ (c .before .before .before .before .before .before .before .before .before .if1 .left) (r .reading))
-    (c .success .ensures) (c .before .before .before .answer-to .ensures)))  -- returns-3
+    let e = c .before .before .before .before .before .before in
+    called-wrote (split-answered _ _ (enough (e .before .before) .if1 .left) (accepted e .reading)) (c .success .ensures)
+    (c .before .before .before .answer-to .ensures)))  -- returns-3

@@ -1,8 +1,7 @@
 -- `writing::put_four` meets its contract.
 -- Assumes nothing.
-use native.Mathlib.Omega.{arith}
 use borrow.Author.Needs.{needs}
-use Rattle.writing.specs.Area.{length-wrote, wrote-more}
+use Rattle.writing.specs.Area.{wrote-more}
 use Rattle.writing.proofs.put_four.Statement.{statement}
 use Rattle.writing.proofs.put_four.Tie as tie
 
@@ -11,6 +10,6 @@ put-four-spec =
     tie.close
     (tie.spec
     (λ c κs. search needs)  -- put-requires
-    (λ c κs. let w = c .before .before .before .put .ensures in omega (arith, length-wrote w, w .place))  -- put-three-requires
+    (λ c κs. search needs)  -- put-three-requires
     (λ c. search needs)  -- same-length
     (λ c. wrote-more (c .before .before .before .before .before .before .put .ensures) (c .before .before .put-three .ensures)))  -- returns

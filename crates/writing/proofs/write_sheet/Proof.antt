@@ -1,41 +1,56 @@
 -- `writing::write_sheet` meets its contract.
 -- Assumes nothing.
-use native.Mathlib.Omega.{arith}
+use mathlib.Core.Path.{_≡_}
+use mathlib.Core.List.{List, _++_}
+use Prim.Native.Nat.{ℕ}
+use lib.ListN.{take}
 use borrow.Author.Needs.{needs}
-use Rattle.writing.specs.Area.{length-wrote, wrote-more, wrote-as}
-use Rattle.writing.specs.Coefficients.{coefficients-short, room-coefficients, sheet-is}
+use Rattle.specification.specs.Sheets.{sheetBytes}
+use Rattle.theorems.specs.CoefficientBytes.{coefficientBytes}
+use Rattle.theorems.specs.SheetLayout.{headBytes, lastBytes}
+use Rattle.commands.specs.declared.Sheet.{Sheet}
+use Rattle.commands.specs.Views.{asSheet}
+use Rattle.writing.specs.Area.{Room, wrote-more, wrote-as, room-as, room-first, room-next}
+use Rattle.writing.specs.Sheets.{sheet-is}
 use Rattle.writing.proofs.write_sheet.Statement.{statement}
 use Rattle.writing.proofs.write_sheet.Tie as tie
+
+-- the three that are written
+abbrev head : Sheet → List ℕ
+head s = headBytes (asSheet s)
+
+abbrev coefficients : Sheet → List ℕ
+coefficients s = coefficientBytes (s .prime) 0 (take (s .degree) (s .coefs))
+
+abbrev last : Sheet → List ℕ
+last s = lastBytes (asSheet s)
+
+abbrev start : tie.After-write-head → tie.Start
+start c = c .before .before .before .before
+
+abbrev headed : tie.After-write-coefficients → tie.After-write-head
+headed c = c .before .before .before .before
+
+whole : (c : tie.Start) → let s = c .args .s in head s ++ (coefficients s ++ last s) ≡ sheetBytes (asSheet s)
+whole c = sheet-is (c .args .s) (search needs) (c .pre .0)
+
+room : (c : tie.Start) → let s = c .args .s in Room (c .args .out .now) 0 (head s ++ (coefficients s ++ last s))
+room c = room-as (whole c) (c .pre .1)
+
+rest-room : (c : tie.After-write-head) → Room (c .write-head .last .0) (c .write-head .result) (coefficients (start c .args .s) ++ last (start c .args .s))
+rest-room c = room-next (head (start c .args .s)) _ (room (start c)) (c .write-head .ensures)
 
 pub write-sheet-spec : {M : Type 1} → statement M
 write-sheet-spec =
     tie.close
     (tie.spec
-    (λ c. search needs)  -- cast-put-four
-    (λ c κs. search needs)  -- put-four-requires
+    (λ c κs. let start = c .before .before .before in (start .pre .0, room-first _ _ (room start)))  -- write-head-requires
+    (λ c κs. (search needs, room-first _ _ (rest-room (c .before .before .before))))  -- write-coefficients-requires
     (λ c κs.
-    let start = c .before .before .before .before .before .before in
-    let w = c .before .before .before .put-four .ensures in (
-      omega (arith, start .pre .0),
-      room-coefficients (start .args .coefs) _ (start .pre .0) (search needs) (start .pre .1)
-          (omega (arith, length-wrote w, w .place, start .pre .0, start .pre .2)),
-    ))  -- write-coefficients-requires
-    (λ c κs.
-    let after-four = c .before .before .before .before .before .before .before in
-    let start = after-four .before .before .before in
-    let w = wrote-more (after-four .put-four .ensures) (c .before .before .before .write-coefficients .ensures) in
-    omega (
-      arith,
-      length-wrote w,
-      c .before .before .before .write-coefficients .ensures .place,
-      after-four .put-four .ensures .place,
-      coefficients-short (start .args .coefs) (start .args .d) (search needs),
-      start .pre .0,
-      start .pre .2,
-    ))  -- put-requires
+    let listed = c .before .before .before in
+    room-next _ _ (rest-room (headed listed)) (listed .write-coefficients .ensures))  -- write-last-requires
     (λ c. search needs)  -- same-length
     (λ c.
-    let after-coefficients = c .before .before .before .before .before .before in
-    let after-four = after-coefficients .before .before .before .before in
-    wrote-as (sheet-is _ (after-four .before .before .before .args .coefs) (search needs) _)
-    (wrote-more (wrote-more (after-four .put-four .ensures) (after-coefficients .write-coefficients .ensures)) (c .before .before .put .ensures))))  -- returns
+    let listed = c .before .before .before .before .before .before in
+    let rest = wrote-more (listed .write-coefficients .ensures) (c .before .before .write-last .ensures) in
+    wrote-as (whole (start (headed listed))) (wrote-more (headed listed .write-head .ensures) rest)))  -- returns

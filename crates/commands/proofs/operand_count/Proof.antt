@@ -1,0 +1,22 @@
+-- `commands::operand_count` meets its contract.
+-- Assumes nothing.
+use mathlib.Core.Path.{refl, sym}
+use Rattle.specification.specs.Lists.{first}
+use Rattle.specification.specs.Commands.{operandCount}
+use Rattle.commands.specs.Table.{no-row}
+use Rattle.commands.proofs.operand_count.Statement.{statement}
+use Rattle.commands.proofs.operand_count.Tie as tie
+
+pub operand-count-spec : {M : Type 1} → statement M
+unfolding operandCount first
+operand-count-spec =
+    tie.close
+    (tie.spec
+    (λ c. rw (c .match .keys1) refl)  -- returns
+    (λ c. rw (c .match .keys2) refl)  -- returns-2
+    (λ c. rw (c .match .keys3) refl)  -- returns-3
+    (λ c. rw (c .match .keys4) refl)  -- returns-4
+    (λ c. rw (c .match .keys5) refl)  -- returns-5
+    (λ c. rw (c .match .keys6) refl)  -- returns-6
+    (λ c. rw (c .match .keys7) refl)  -- returns-7
+    (λ c. let (((((((u, n1), n2), n3), n4), n5), n6), n7) = c .match .rest in sym (no-row n1 n2 n3 n4 n5 n6 n7)))  -- returns-8
