@@ -1,11 +1,11 @@
-/* The pattern splitter's C interface: factor lists modulo the square of a prime. Link with target/staticlib/libsplitter.a, which
- * `rt staticlib splitter` writes. Sheets, answers, numbers and places are those of document 01.
+/* The pattern splitter's C interface: factor lists modulo the square of a prime. Link with target/staticlib/libkuzhmader.a, which
+ * `rt staticlib kuzhmader` writes. Sheets, answers, numbers and places are those of document 01.
  *
- * Rules for both calls:
+ * Rules for all calls:
  * - The first two arguments are lent to be read and are never changed. The last two are the answer area.
  * - The two areas must not overlap, not in one byte; nobody else may write to either while the call runs.
- * - A pointer must not be null, not even with length 0: lend any one byte and the length 0. A length is that of memory which really is
- *   there, and at most PTRDIFF_MAX.
+ * - A pointer must not be null, not even with length 0: `kuzhmader_split_nullable` and `kuzhmader_read_nullable`, below, take that away. A length is
+ *   that of memory which really is there, and at most PTRDIFF_MAX.
  * - On success `number` is KUZHMADER_DONE, `place` is 0, and the first `count` bytes of the area are the result. On a refusal `number` says
  *   why, `place` says where in the input (counted from 0), and `count` is 0. Bytes of the area from `count` on keep their values.
  * - The calls keep nothing between them, take no memory from the heap, and may run in several threads at once.
@@ -53,6 +53,29 @@ kuzhmader_outcome kuzhmader_split(const uint8_t *sheet, size_t sheet_length, uin
 
 /* From an answer back to its sheet. */
 kuzhmader_outcome kuzhmader_read(const uint8_t *answer, size_t answer_length, uint8_t *area, size_t area_length);
+
+/* The same two calls where a pointer may be null if its length is 0, as C has it for no bytes: a byte is then lent in its place, which is
+ * neither read nor written. So an empty sheet is 2 at 0, and no area is 1. Null with another length is the caller's fault, as elsewhere in C.
+ * The two above are the ones that are proved, and other languages link them, so they keep their names; from C and C++ call these. */
+static inline kuzhmader_outcome kuzhmader_split_nullable(const uint8_t *sheet, size_t sheet_length, uint8_t *area, size_t area_length)
+{
+    uint8_t lent[2] = {0, 0};
+    if (sheet == NULL && sheet_length == 0)
+        sheet = &lent[0];
+    if (area == NULL && area_length == 0)
+        area = &lent[1];
+    return kuzhmader_split(sheet, sheet_length, area, area_length);
+}
+
+static inline kuzhmader_outcome kuzhmader_read_nullable(const uint8_t *answer, size_t answer_length, uint8_t *area, size_t area_length)
+{
+    uint8_t lent[2] = {0, 0};
+    if (answer == NULL && answer_length == 0)
+        answer = &lent[0];
+    if (area == NULL && area_length == 0)
+        area = &lent[1];
+    return kuzhmader_read(answer, answer_length, area, area_length);
+}
 
 #ifdef __cplusplus
 }

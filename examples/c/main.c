@@ -37,13 +37,13 @@ static void print_answer(const uint8_t *at)
 int main(void)
 {
     uint8_t answer[KUZHMADER_AREA], back[KUZHMADER_AREA];
-    kuzhmader_outcome split = kuzhmader_split(sheet, sizeof sheet, answer, sizeof answer);
+    kuzhmader_outcome split = kuzhmader_split_nullable(sheet, sizeof sheet, answer, sizeof answer);
     if (split.number != KUZHMADER_DONE) {
         printf("refused %u at %zu\n", split.number, split.place);
         return 1;
     }
     print_answer(answer);
-    kuzhmader_outcome read = kuzhmader_read(answer, split.count, back, sizeof back);
+    kuzhmader_outcome read = kuzhmader_read_nullable(answer, split.count, back, sizeof back);
     if (read.count != sizeof sheet || memcmp(back, sheet, sizeof sheet) != 0) {
         printf("the answer does not lead back to the sheet\n");
         return 1;

@@ -19,7 +19,7 @@ from stored import write_cases
 
 
 class Found(NamedTuple):
-    """What the search gives back: number, place and the parts."""
+    """What the test program gives for a record: number, place and the parts."""
 
     number: int
     place: int
@@ -27,7 +27,7 @@ class Found(NamedTuple):
 
 
 def found(record: Record) -> Found:
-    """The parts of a monic polynomial of degree 1 or more; number 10, 13 or 5 and no parts for any other record."""
+    """The parts of a monic polynomial of degree 1 or more; any other record the test program turns back, with 10, 13 or 5."""
     if not is_proper(record):
         return Found(10, 0, [])
     if not is_monic(record.coefficients):

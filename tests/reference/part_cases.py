@@ -1,4 +1,4 @@
-"""The records on which the library's search for parts is compared with the reference: taken and refused ones."""
+"""The records on which the library's search for parts is compared with the reference, and others, which the test program turns back."""
 
 import random
 from typing import Iterator

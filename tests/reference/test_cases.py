@@ -5,6 +5,7 @@ import unittest
 
 import reader_cases
 import sheet_cases
+import text_cases
 from answers import list_read_off, sheet_of_answer
 from arithmetic import LIMIT, TAKEN_PRIMES
 from call_vectors import case_bytes, cases_of, outcome_line
@@ -14,7 +15,7 @@ from polynomial_cases import all_sheets
 from polynomials import degree, product_of
 from records import polynomial
 from sheet_cases import Call
-from splitter import AREA, split
+from splitter import AREA, program, split
 
 
 class Polynomials(unittest.TestCase):
@@ -71,6 +72,20 @@ class ReaderCalls(unittest.TestCase):
         for module in (sheet_cases, reader_cases):
             self.assertEqual(cases_of(module.small_damage), cases_of(module.small_damage))
         self.assertNotEqual(list(sheet_cases.two_faults(random.Random(1))), list(sheet_cases.two_faults(random.Random(2))))
+
+
+class Texts(unittest.TestCase):
+    def test_every_number_and_every_word(self):
+        texts = [program(data) for kind in text_cases.KINDS for data in cases_of(kind)]
+        refusals = [text[0].split() for text in texts if len(text) == 1]
+        heads = [text[0].split() for text in texts if len(text) > 1]
+        verdicts = {(text[0].split()[1], line.split()[3]) for text in texts for line in text if line.startswith("part")}
+        self.assertEqual(texts[0], ["refused 4 at 1"])
+        self.assertIn(["refused 2 at 0"], texts)
+        self.assertEqual({number for _, number, _, _ in refusals}, set("2345678"))
+        self.assertEqual({place for _, _, _, place in refusals if len(place) > 2}, {"101"})
+        self.assertIn(["prime", "7", "degree", "32"], heads)
+        self.assertEqual(verdicts, {(p, word) for p in "2357" for word in ("basic", "solid", "power", "split")})
 
 
 if __name__ == "__main__":

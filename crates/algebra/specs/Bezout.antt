@@ -7,7 +7,7 @@ use native.Mathlib.Omega.{arith}
 use Rattle.algebra.specs.Ring.{CommRing, ring, mul-zero}
 use Rattle.algebra.specs.Identities.{_⊕_, _⊖_, _⊗_, _≈_, solve}
 use Rattle.algebra.specs.Divisibility.{_∣_, Coprime, divides-refl, divides-mul, divides-add, divides-trans}
-use Rattle.algebra.specs.Polynomials.{Poly, PolyRing, _+_, _·_, -_, 𝟎, 𝟏, constant, constant-unit, coef-constant-mul}
+use Rattle.algebra.specs.PolynomialRing.{Poly, PolyRing, _+ᴿ_, _·_, -ᴿ_, 𝟎, 𝟏, constant, constant-unit, coef-constant-mul}
 use Rattle.algebra.specs.Degree.{Below, Monic, below-up, below-zero, below-constant-mul}
 use Rattle.algebra.specs.Leading.{Leading, leading, bound, divide, degree-below}
 use Rattle.algebra.specs.Fields.{Field}
@@ -18,7 +18,7 @@ module _ {R : Type 0} {𝓡 : CommRing R} where
     pub gcd : Poly 𝓡
     pub u : Poly 𝓡
     pub v : Poly 𝓡
-    pub combination : u · a + v · b ≡ gcd
+    pub combination : u · a +ᴿ v · b ≡ gcd
     pub left : _∣_ (PolyRing 𝓡) gcd a
     pub right : _∣_ (PolyRing 𝓡) gcd b
 
@@ -63,12 +63,12 @@ module _ {R : Type 0} {𝓡 : CommRing R} where
     }
 
     -- a divided by the monic multiple c·b leaves r
-    bezout-step : (a b c i q r : Poly 𝓡) → i · c ≡ 𝟏 → q · (c · b) + r ≡ a → Bezout (c · b) r → Bezout a b
+    bezout-step : (a b c i q r : Poly 𝓡) → i · c ≡ 𝟏 → q · (c · b) +ᴿ r ≡ a → Bezout (c · b) r → Bezout a b
     bezout-step a b c i q r unit law z = record {
       gcd = z .gcd;
       u = z .v;
-      v = (z .u + - (z .v · q)) · c;
-      combination = ap (λ y. z .v · y + (z .u + - (z .v · q)) · c · b) (sym law)
+      v = (z .u +ᴿ -ᴿ (z .v · q)) · c;
+      combination = ap (λ y. z .v · y +ᴿ (z .u +ᴿ -ᴿ (z .v · q)) · c · b) (sym law)
           ∙ solve (PolyRing 𝓡) 6 (λ v q c b r u. v ⊗ (q ⊗ (c ⊗ b) ⊕ r) ⊕ (u ⊖ v ⊗ q) ⊗ c ⊗ b ≈ u ⊗ (c ⊗ b) ⊕ v ⊗ r) tt (z .v) q c b r (z .u)
           ∙ z .combination;
       left = rw (← law) (divides-add (PolyRing 𝓡) (divides-mul (PolyRing 𝓡) q (z .left)) (z .right));

@@ -3,22 +3,32 @@
 -- Assumes nothing.
 use mathlib.Core.Path.{_≡_, refl, sym, _∙_, ap, ap₂}
 use mathlib.Core.List.{List, [], _∷_, map}
-use Prim.Native.Nat.{ℕ, zero, suc, _≤_, _<_, _-_, _%_, _+_ as _+ℕ_, _*_ as _*ℕ_}
+use Prim.Native.Nat.{ℕ, zero, suc, _≤_, _<_, _-_, _%_, _+_, _*_}
 use native.Mathlib.Nat.{mod-eq-of-lt}
 use native.Mathlib.Omega.{arith}
 use lib.ListN.{length, getD, List·getD-eq-default}
 use lib.Seq.{ext-getD}
 use Rattle.specification.specs.Polynomials as spec
-use Rattle.algebra.specs.Ring.{add-zero, zero-add, zero-mul, mul-zero}
+use Rattle.algebra.specs.Ring.{CommRing, add-zero, zero-add, mul-one, zero-mul, mul-zero}
 use Rattle.algebra.specs.Identities.{con, _⊕_, _⊗_, ⊝_, _≈_, solve}
 use Rattle.algebra.specs.Divisibility.{pow, pow-zero, pow-suc, product, product-nil, product-cons}
-use Rattle.algebra.specs.Residues.{residue, Residues, residue-zero, residue-one, residue-add, residue-mul, residue-neg, residue-mod, same-remainder}
-use Rattle.algebra.specs.Polynomials.{
+use Rattle.algebra.specs.Residues.{
+  residue,
+  Residues,
+  residue-zero,
+  residue-one,
+  residue-add,
+  residue-mul,
+  residue-neg,
+  residue-mod,
+  same-remainder,
+}
+use Rattle.algebra.specs.PolynomialRing.{
   Poly,
   PolyRing,
-  _+_,
+  _+ᴿ_,
   _·_,
-  -_,
+  -ᴿ_,
   𝟎,
   𝟏,
   x,
@@ -41,6 +51,10 @@ use Rattle.algebra.specs.Degree.{Below}
 -- the polynomials over ℤ/n
 abbrev pub ℤ[x]/ : ℕ → Type 0
 ℤ[x]/ n = Poly (Residues n)
+
+-- and their ring
+abbrev pub 𝓩[x]/ : (n : ℕ) → CommRing (ℤ[x]/ n)
+𝓩[x]/ n = PolyRing (Residues n)
 
 -- a list as a polynomial, constant first
 unfoldable pub poly : (n : ℕ) → List ℕ → ℤ[x]/ n
@@ -65,56 +79,61 @@ module _ (n : ℕ) where
   pub poly-nil : poly n [] ≡ 𝟎
   poly-nil = poly-ext (λ k. coef-poly [] k ∙ residue-zero n ∙ sym (coef-zero (Residues n) k))
 
-  pub poly-cons : (a : ℕ) (f : List ℕ) → poly n (a ∷ f) ≡ constant (residue n a) + x · poly n f
+  pub poly-cons : (a : ℕ) (f : List ℕ) → poly n (a ∷ f) ≡ constant (residue n a) +ᴿ x · poly n f
   poly-cons a f = poly-ext at
     where
-      at : (k : ℕ) → (poly n (a ∷ f)) .coef k ≡ (constant {𝓡 = Residues n} (residue n a) + x · poly n f) .coef k
+      at : (k : ℕ) → (poly n (a ∷ f)) .coef k ≡ (constant {𝓡 = Residues n} (residue n a) +ᴿ x · poly n f) .coef k
       at zero = coef-poly (a ∷ f) 0 ∙ sym (simp (coef-add, coef-constant-zero, coef-x-mul-zero, add-zero))
       at (suc k) = coef-poly (a ∷ f) (suc k) ∙ sym (simp (coef-add, coef-constant-suc, coef-x-mul-suc, coef-poly, zero-add))
 
   -- ---- over the numbers
 
-  poly-plus : (f g : List ℕ) → poly n (spec.plus f g) ≡ poly n f + poly n g
+  poly-plus : (f g : List ℕ) → poly n (spec.plus f g) ≡ poly n f +ᴿ poly n g
   unfolding spec.plus
-  poly-plus [] g = sym (ap (λ a. a + poly n g) poly-nil ∙ (PolyRing (Residues n)) .+-zero (poly n g))
-  poly-plus (a ∷ f) [] = sym (ap (λ b. poly n (a ∷ f) + b) poly-nil ∙ add-zero (PolyRing (Residues n)) (poly n (a ∷ f)))
+  poly-plus [] g = sym (ap (λ a. a +ᴿ poly n g) poly-nil ∙ (𝓩[x]/ n) .+-zero (poly n g))
+  poly-plus (a ∷ f) [] = sym (ap (λ b. poly n (a ∷ f) +ᴿ b) poly-nil ∙ add-zero (𝓩[x]/ n) (poly n (a ∷ f)))
   poly-plus (a ∷ f) (b ∷ g) =
-      poly-cons (a +ℕ b) (spec.plus f g)
-      ∙ ap₂ (λ c h. c + x · h) (ap constant (residue-add n a b) ∙ constant-add (residue n a) (residue n b)) (poly-plus f g)
-      ∙ solve (PolyRing (Residues n)) 5 (λ a b x f g. a ⊕ b ⊕ x ⊗ (f ⊕ g) ≈ a ⊕ x ⊗ f ⊕ (b ⊕ x ⊗ g)) tt
+      poly-cons (a + b) (spec.plus f g)
+      ∙ ap₂ (λ c h. c +ᴿ x · h) (ap constant (residue-add n a b) ∙ constant-add (residue n a) (residue n b)) (poly-plus f g)
+      ∙ solve (𝓩[x]/ n) 5 (λ a b x f g. a ⊕ b ⊕ x ⊗ (f ⊕ g) ≈ a ⊕ x ⊗ f ⊕ (b ⊕ x ⊗ g)) tt
       (constant (residue n a)) (constant (residue n b)) x (poly n f) (poly n g)
-      ∙ sym (ap₂ (λ c h. c + h) (poly-cons a f) (poly-cons b g))
+      ∙ sym (ap₂ (λ c h. c +ᴿ h) (poly-cons a f) (poly-cons b g))
 
   poly-multiple : (c : ℕ) (f : List ℕ) → poly n (spec.multiple c f) ≡ constant (residue n c) · poly n f
   unfolding spec.multiple
-  poly-multiple c [] = poly-nil ∙ sym (ap (λ a. constant (residue n c) · a) poly-nil ∙ mul-zero (PolyRing (Residues n)) _)
+  poly-multiple c [] = poly-nil ∙ sym (ap (λ a. constant (residue n c) · a) poly-nil ∙ mul-zero (𝓩[x]/ n) _)
   poly-multiple c (a ∷ f) =
-      poly-cons (c *ℕ a) (map (λ (b : ℕ). c *ℕ b) f)
-      ∙ ap₂ (λ b h. b + x · h) (ap constant (residue-mul n c a) ∙ constant-mul (residue n c) (residue n a)) (poly-multiple c f)
-      ∙ solve (PolyRing (Residues n)) 4 (λ c a x f. c ⊗ a ⊕ x ⊗ (c ⊗ f) ≈ c ⊗ (a ⊕ x ⊗ f)) tt
+      poly-cons (c * a) (map (λ (b : ℕ). c * b) f)
+      ∙ ap₂ (λ b h. b +ᴿ x · h) (ap constant (residue-mul n c a) ∙ constant-mul (residue n c) (residue n a)) (poly-multiple c f)
+      ∙ solve (𝓩[x]/ n) 4 (λ c a x f. c ⊗ a ⊕ x ⊗ (c ⊗ f) ≈ c ⊗ (a ⊕ x ⊗ f)) tt
       (constant (residue n c)) (constant (residue n a)) x (poly n f)
       ∙ sym (ap (λ h. constant (residue n c) · h) (poly-cons a f))
 
+  poly-zero-cons : (f : List ℕ) → poly n (0 ∷ f) ≡ x · poly n f
+  poly-zero-cons f =
+      poly-cons 0 f ∙ ap (λ c. c +ᴿ x · poly n f) (ap constant (residue-zero n) ∙ constant-zero (Residues n)) ∙ (𝓩[x]/ n) .+-zero (x · poly n f)
+
   poly-shift : (f : List ℕ) → poly n (spec.shift f) ≡ x · poly n f
   unfolding spec.shift
-  poly-shift [] = poly-nil ∙ sym (ap (λ a. x · a) poly-nil ∙ mul-zero (PolyRing (Residues n)) x)
-  poly-shift (a ∷ f) =
-      poly-cons 0 (a ∷ f) ∙ ap (λ c. c + x · poly n (a ∷ f)) (ap constant (residue-zero n) ∙ constant-zero (Residues n))
-      ∙ (PolyRing (Residues n)) .+-zero (x · poly n (a ∷ f))
+  poly-shift [] = poly-nil ∙ sym (ap (λ a. x · a) poly-nil ∙ mul-zero (𝓩[x]/ n) x)
+  poly-shift (a ∷ f) = poly-zero-cons (a ∷ f)
 
   poly-times : (f g : List ℕ) → poly n (spec.times f g) ≡ poly n f · poly n g
   unfolding spec.times
-  poly-times [] g = poly-nil ∙ sym (ap (λ a. a · poly n g) poly-nil ∙ zero-mul (PolyRing (Residues n)) (poly n g))
+  poly-times [] g = poly-nil ∙ sym (ap (λ a. a · poly n g) poly-nil ∙ zero-mul (𝓩[x]/ n) (poly n g))
   poly-times (a ∷ f) g =
       poly-plus (spec.multiple a g) (spec.shift (spec.times f g))
-      ∙ ap₂ _+_ (poly-multiple a g) (poly-shift (spec.times f g) ∙ ap (λ h. x · h) (poly-times f g))
-      ∙ solve (PolyRing (Residues n)) 4 (λ a x f g. a ⊗ g ⊕ x ⊗ (f ⊗ g) ≈ (a ⊕ x ⊗ f) ⊗ g) tt (constant (residue n a)) x (poly n f) (poly n g)
+      ∙ ap₂ _+ᴿ_ (poly-multiple a g) (poly-shift (spec.times f g) ∙ ap (λ h. x · h) (poly-times f g))
+      ∙ solve (𝓩[x]/ n) 4 (λ a x f g. a ⊗ g ⊕ x ⊗ (f ⊗ g) ≈ (a ⊕ x ⊗ f) ⊗ g) tt (constant (residue n a)) x (poly n f) (poly n g)
       ∙ sym (ap (λ h. h · poly n g) (poly-cons a f))
 
   pub poly-one : poly n (1 ∷ []) ≡ 𝟏
   poly-one =
-      poly-cons 1 [] ∙ ap₂ (λ c h. c + x · h) (ap constant (residue-one n) ∙ constant-one (Residues n)) poly-nil
-      ∙ solve (PolyRing (Residues n)) 1 (λ x. con 1 ⊕ x ⊗ con 0 ≈ con 1) tt x
+      poly-cons 1 [] ∙ ap₂ (λ c h. c +ᴿ x · h) (ap constant (residue-one n) ∙ constant-one (Residues n)) poly-nil
+      ∙ solve (𝓩[x]/ n) 1 (λ x. con 1 ⊕ x ⊗ con 0 ≈ con 1) tt x
+
+  pub poly-x : poly n (0 ∷ 1 ∷ []) ≡ x
+  poly-x = poly-zero-cons (1 ∷ []) ∙ ap (λ h. x · h) poly-one ∙ mul-one (𝓩[x]/ n) x
 
   -- ---- modulo n
 
@@ -124,10 +143,10 @@ module _ (n : ℕ) where
     poly-reduce [] = refl
     poly-reduce (a ∷ f) =
         poly-cons (a % n) (map (λ (b : ℕ). b % n) f)
-        ∙ ap₂ (λ c h. constant c + x · h) (residue-mod n pos a) (poly-reduce f)
+        ∙ ap₂ (λ c h. constant c +ᴿ x · h) (residue-mod n pos a) (poly-reduce f)
         ∙ sym (poly-cons a f)
 
-    pub poly-add : (f g : List ℕ) → poly n (spec.add n f g) ≡ poly n f + poly n g
+    pub poly-add : (f g : List ℕ) → poly n (spec.add n f g) ≡ poly n f +ᴿ poly n g
     unfolding spec.add
     poly-add f g = poly-reduce (spec.plus f g) ∙ poly-plus f g
 
@@ -135,35 +154,35 @@ module _ (n : ℕ) where
     unfolding spec.scale
     poly-scale c f = poly-reduce (spec.multiple c f) ∙ poly-multiple c f
 
-    constant-neg-one : constant {𝓡 = Residues n} (residue n (n - 1)) ≡ - 𝟏
+    constant-neg-one : constant {𝓡 = Residues n} (residue n (n - 1)) ≡ -ᴿ 𝟏
     constant-neg-one =
         ap constant (residue-neg n pos 1 pos ∙ ap ((Residues n) .neg) (residue-one n))
-        ∙ constant-neg ((Residues n) .𝟙) ∙ ap (λ a. - a) (constant-one (Residues n))
+        ∙ constant-neg ((Residues n) .𝟙) ∙ ap (λ a. -ᴿ a) (constant-one (Residues n))
 
-    pub poly-sub : (f g : List ℕ) → poly n (spec.sub n f g) ≡ poly n f + - poly n g
+    pub poly-sub : (f g : List ℕ) → poly n (spec.sub n f g) ≡ poly n f +ᴿ -ᴿ poly n g
     unfolding spec.sub
     poly-sub f g =
         poly-add f (spec.scale n (n - 1) g)
-        ∙ ap (λ h. poly n f + h)
+        ∙ ap (λ h. poly n f +ᴿ h)
         (poly-scale (n - 1) g ∙ ap (λ c. c · poly n g) constant-neg-one
-        ∙ solve (PolyRing (Residues n)) 1 (λ g. ⊝ con 1 ⊗ g ≈ ⊝ g) tt (poly n g))
+        ∙ solve (𝓩[x]/ n) 1 (λ g. ⊝ con 1 ⊗ g ≈ ⊝ g) tt (poly n g))
 
     pub poly-mul : (f g : List ℕ) → poly n (spec.mul n f g) ≡ poly n f · poly n g
     unfolding spec.mul
     poly-mul f g = poly-reduce (spec.times f g) ∙ poly-times f g
 
-    pub poly-pow : (f : List ℕ) (k : ℕ) → poly n (spec.pow n f k) ≡ pow (PolyRing (Residues n)) (poly n f) k
+    pub poly-pow : (f : List ℕ) (k : ℕ) → poly n (spec.pow n f k) ≡ pow (𝓩[x]/ n) (poly n f) k
     unfolding spec.pow
-    poly-pow f zero = poly-one ∙ sym (pow-zero (PolyRing (Residues n)) (poly n f))
+    poly-pow f zero = poly-one ∙ sym (pow-zero (𝓩[x]/ n) (poly n f))
     poly-pow f (suc k) =
-        poly-mul f (spec.pow n f k) ∙ ap (λ h. poly n f · h) (poly-pow f k) ∙ sym (pow-suc (PolyRing (Residues n)) (poly n f) k)
+        poly-mul f (spec.pow n f k) ∙ ap (λ h. poly n f · h) (poly-pow f k) ∙ sym (pow-suc (𝓩[x]/ n) (poly n f) k)
 
-    pub poly-product : (l : List (List ℕ)) → poly n (spec.product n l) ≡ product (PolyRing (Residues n)) (map (poly n) l)
+    pub poly-product : (l : List (List ℕ)) → poly n (spec.product n l) ≡ product (𝓩[x]/ n) (map (poly n) l)
     unfolding spec.product
-    poly-product [] = poly-one ∙ sym (product-nil (PolyRing (Residues n)))
+    poly-product [] = poly-one ∙ sym (product-nil (𝓩[x]/ n))
     poly-product (f ∷ l) =
         poly-mul f (spec.product n l) ∙ ap (λ h. poly n f · h) (poly-product l)
-        ∙ sym (product-cons (PolyRing (Residues n)) (poly n f) (map (poly n) l))
+        ∙ sym (product-cons (𝓩[x]/ n) (poly n f) (map (poly n) l))
 
 -- reduced lists of one length that are the same polynomial are the same list
 pub same-list : {n m : ℕ} {f g : List ℕ} → Reduced n m f → Reduced n m g → poly n f ≡ poly n g → f ≡ g

@@ -6,7 +6,7 @@ use Prim.Native.Nat.{ℕ, zero, suc}
 use Rattle.algebra.specs.Ring.{CommRing, zero-mul, sub-self, eq-of-sub, linear1}
 use Rattle.algebra.specs.Identities.{con, _⊕_, _⊖_, _⊗_, ⊝_, _≈_, solve}
 use Rattle.algebra.specs.Divisibility.{_∣_, pow, pow-zero, pow-suc, divides-add, divides-mul}
-use Rattle.algebra.specs.Polynomials.{Poly, PolyRing, _+_, 𝟏, _·_}
+use Rattle.algebra.specs.PolynomialRing.{Poly, PolyRing, _+ᴿ_, 𝟏, _·_}
 use Rattle.algebra.specs.Degree.{Below, Monic, below-add, below-neg, small-multiple}
 use Rattle.algebra.specs.Division.{Divided}
 
@@ -14,9 +14,9 @@ abbrev pub Congruent : {R : Type 0} → CommRing R → R → R → R → Type 0
 Congruent 𝓡 f a b = _∣_ 𝓡 f (𝓡 .add a (𝓡 .neg b))
 
 module _ {R : Type 0} (𝓡 : CommRing R) {f : R} where
-  infixl 60 _+_
-  infixl 70 _*_
-  open CommRing 𝓡 using (add as _+_, mul as _*_, neg, 𝟘, 𝟙)
+  infixl 60 _+ᴿ_
+  infixl 70 _*ᴿ_
+  open CommRing 𝓡 using (add as _+ᴿ_, mul as _*ᴿ_, neg, 𝟘, 𝟙)
 
   pub congruent-equal : {a b : R} → a ≡ b → Congruent 𝓡 f a b
   congruent-equal e = (𝟘, zero-mul 𝓡 f ∙ sym (sub-self 𝓡 e))
@@ -28,11 +28,11 @@ module _ {R : Type 0} (𝓡 : CommRing R) {f : R} where
   pub congruent-trans : {a b c : R} → Congruent 𝓡 f a b → Congruent 𝓡 f b c → Congruent 𝓡 f a c
   congruent-trans {a} {b} {c} h k = rw (solve 𝓡 3 (λ a b c. a ⊖ c ≈ a ⊖ b ⊕ (b ⊖ c)) tt a b c) (divides-add 𝓡 h k)
 
-  pub congruent-add : {a b c d : R} → Congruent 𝓡 f a b → Congruent 𝓡 f c d → Congruent 𝓡 f (a + c) (b + d)
+  pub congruent-add : {a b c d : R} → Congruent 𝓡 f a b → Congruent 𝓡 f c d → Congruent 𝓡 f (a +ᴿ c) (b +ᴿ d)
   congruent-add {a} {b} {c} {d} h k =
       rw (solve 𝓡 4 (λ a b c d. a ⊕ c ⊖ (b ⊕ d) ≈ a ⊖ b ⊕ (c ⊖ d)) tt a b c d) (divides-add 𝓡 h k)
 
-  pub congruent-mul : {a b c d : R} → Congruent 𝓡 f a b → Congruent 𝓡 f c d → Congruent 𝓡 f (a * c) (b * d)
+  pub congruent-mul : {a b c d : R} → Congruent 𝓡 f a b → Congruent 𝓡 f c d → Congruent 𝓡 f (a *ᴿ c) (b *ᴿ d)
   congruent-mul {a} {b} {c} {d} h k =
       rw (solve 𝓡 4 (λ a b c d. a ⊗ c ⊖ b ⊗ d ≈ c ⊗ (a ⊖ b) ⊕ b ⊗ (c ⊖ d)) tt a b c d)
       (divides-add 𝓡 (divides-mul 𝓡 c h) (divides-mul 𝓡 b k))

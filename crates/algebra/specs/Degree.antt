@@ -2,18 +2,18 @@
 -- Proves how sums, products and multiples by monic polynomials behave. Assumes nothing.
 use mathlib.Core.Path.{_≡_, refl, sym, _∙_, ap, ap₂}
 use mathlib.Core.Logic.{_⊎_, inl, inr, ∥∥₁-elim}
-use Prim.Native.Nat.{ℕ, zero, suc, _≤_, _<_, _+_ as _+ℕ_, _*_ as _*ℕ_}
+use Prim.Native.Nat.{ℕ, zero, suc, _≤_, _<_, _+_, _*_}
 use native.Mathlib.Nat.{suc-add, suc-mul, zero-mul, add-comm, mul-one as mul-oneℕ, eq-or-lt-of-le}
 use native.Mathlib.Omega.{arith}
 use Rattle.algebra.specs.Ring.{CommRing, add-zero, mul-zero, mul-one, neg-zero}
 use Rattle.algebra.specs.Divisibility.{pow, pow-zero, pow-suc}
 use Rattle.algebra.specs.Series.{single, ends-⊠, top-⊠}
-use Rattle.algebra.specs.Polynomials.{
+use Rattle.algebra.specs.PolynomialRing.{
   Poly,
   PolyRing,
-  _+_,
+  _+ᴿ_,
   _·_,
-  -_,
+  -ᴿ_,
   𝟎,
   𝟏,
   x,
@@ -46,12 +46,12 @@ module _ {R : Type 0} {𝓡 : CommRing R} where
   pub below-up : {d e : ℕ} {a : Poly 𝓡} → d ≤ e → Below d a → Below e a
   below-up l h = record { high = λ k m. h .high k (omega arith) }
 
-  pub below-add : {d : ℕ} {a b : Poly 𝓡} → Below d a → Below d b → Below d (a + b)
+  pub below-add : {d : ℕ} {a b : Poly 𝓡} → Below d a → Below d b → Below d (a +ᴿ b)
   below-add {a = a} {b} h g = record {
     high = λ k m. coef-add a b k ∙ ap₂ (𝓡 .add) (h .high k m) (g .high k m) ∙ 𝓡 .+-zero (𝓡 .𝟘);
   }
 
-  pub below-neg : {d : ℕ} {a : Poly 𝓡} → Below d a → Below d (- a)
+  pub below-neg : {d : ℕ} {a : Poly 𝓡} → Below d a → Below d (-ᴿ a)
   below-neg {a = a} h = record { high = λ k m. coef-neg a k ∙ ap (𝓡 .neg) (h .high k m) ∙ neg-zero 𝓡 }
 
   pub below-zero : {a : Poly 𝓡} → Below 0 a → a ≡ 𝟎
@@ -70,20 +70,20 @@ module _ {R : Type 0} {𝓡 : CommRing R} where
   pub below-constant-mul : {d : ℕ} {a : Poly 𝓡} (c : R) → Below d a → Below d (constant c · a)
   below-constant-mul {a = a} c h = record { high = λ k m. coef-constant-mul c a k ∙ ap (𝓡 .mul c) (h .high k m) ∙ mul-zero 𝓡 c }
 
-  pub below-mul : {d e : ℕ} {a b : Poly 𝓡} → Below d a → Below (suc e) b → Below (d +ℕ e) (a · b)
+  pub below-mul : {d e : ℕ} {a b : Poly 𝓡} → Below d a → Below (suc e) b → Below (d + e) (a · b)
   below-mul {d} {e} {a} {b} h g = record { high = unfold PolyRing in ends-⊠ 𝓡 d e (a .coef) (b .coef) (h .high) (g .high) }
 
   pub coef-top : {d e : ℕ} {a b : Poly 𝓡} → Below (suc d) a → Below (suc e) b
-      → (a · b) .coef (d +ℕ e) ≡ 𝓡 .mul (a .coef d) (b .coef e)
+      → (a · b) .coef (d + e) ≡ 𝓡 .mul (a .coef d) (b .coef e)
   coef-top {d} {e} {a} {b} h g = unfold PolyRing in top-⊠ 𝓡 d e (a .coef) (b .coef) (h .high) (g .high)
 
-  pub monic-mul : {d e : ℕ} {a b : Poly 𝓡} → Monic d a → Monic e b → Monic (d +ℕ e) (a · b)
+  pub monic-mul : {d e : ℕ} {a b : Poly 𝓡} → Monic d a → Monic e b → Monic (d + e) (a · b)
   monic-mul {d} {e} m n = record {
     leading = coef-top (m .below) (n .below) ∙ ap₂ (𝓡 .mul) (m .leading) (n .leading) ∙ 𝓡 .*-one (𝓡 .𝟙);
     below = rw (← suc-add d e) (below-mul (m .below) (n .below));
   }
 
-  pub monic-add : {d : ℕ} {a b : Poly 𝓡} → Monic d a → Below d b → Monic d (a + b)
+  pub monic-add : {d : ℕ} {a b : Poly 𝓡} → Monic d a → Below d b → Monic d (a +ᴿ b)
   monic-add {d} {a} {b} m h = record {
     leading = coef-add a b d ∙ ap₂ (𝓡 .add) (m .leading) (h .high d (omega arith)) ∙ add-zero 𝓡 (𝓡 .𝟙);
     below = below-add (m .below) (below-up (omega arith) h);
@@ -102,20 +102,20 @@ module _ {R : Type 0} {𝓡 : CommRing R} where
   pub below-prop : {d : ℕ} {a : Poly 𝓡} → IsProp (Below d a)
   below-prop h g = λ i. record { high = λ k l. 𝓡 .isSet _ _ (h .high k l) (g .high k l) i }
 
-  below-factor-from : {d : ℕ} {g : Poly 𝓡} → Monic d g → (n m : ℕ) (q : Poly 𝓡) → Below (n +ℕ m) q → Below (n +ℕ d) (q · g) → Below n q
+  below-factor-from : {d : ℕ} {g : Poly 𝓡} → Monic d g → (n m : ℕ) (q : Poly 𝓡) → Below (n + m) q → Below (n + d) (q · g) → Below n q
   below-factor-from mg n zero q h s = below-up (omega arith) h
   below-factor-from {d} {g} mg n (suc m) q h s = below-factor-from mg n m q (below-down up top) s
     where
-      up : Below (suc (n +ℕ m)) q
+      up : Below (suc (n + m)) q
       up = below-up (omega arith) h
 
-      top : q .coef (n +ℕ m) ≡ 𝓡 .𝟘
+      top : q .coef (n + m) ≡ 𝓡 .𝟘
       top =
-          sym (mul-one 𝓡 (q .coef (n +ℕ m))) ∙ ap (𝓡 .mul (q .coef (n +ℕ m))) (sym (mg .leading))
-          ∙ sym (coef-top up (mg .below)) ∙ s .high (n +ℕ m +ℕ d) (omega arith)
+          sym (mul-one 𝓡 (q .coef (n + m))) ∙ ap (𝓡 .mul (q .coef (n + m))) (sym (mg .leading))
+          ∙ sym (coef-top up (mg .below)) ∙ s .high (n + m + d) (omega arith)
 
   -- a factor of a multiple of a monic polynomial of degree d is d degrees lower
-  pub below-factor : {d : ℕ} {g : Poly 𝓡} → Monic d g → (n : ℕ) (q : Poly 𝓡) → Below (n +ℕ d) (q · g) → Below n q
+  pub below-factor : {d : ℕ} {g : Poly 𝓡} → Monic d g → (n : ℕ) (q : Poly 𝓡) → Below (n + d) (q · g) → Below n q
   below-factor mg n q s =
       ∥∥₁-elim (q .bounded) below-prop
       (λ b. below-factor-from mg n (b .0) q (record { high = λ k l. b .1 k (omega arith) }) s)
@@ -164,9 +164,9 @@ module _ {R : Type 0} {𝓡 : CommRing R} where
       at (suc zero) l = absurd (omega arith)
       at (suc (suc k)) l = unfold x single in refl
 
-  pub monic-pow : {d : ℕ} {g : Poly 𝓡} → Monic d g → (k : ℕ) → Monic (k *ℕ d) (pow (PolyRing 𝓡) g k)
+  pub monic-pow : {d : ℕ} {g : Poly 𝓡} → Monic d g → (k : ℕ) → Monic (k * d) (pow (PolyRing 𝓡) g k)
   monic-pow {d} {g} m zero = rw (pow-zero (PolyRing 𝓡) g, zero-mul d) monic-one
-  monic-pow {d} {g} m (suc k) = rw (pow-suc (PolyRing 𝓡) g k, suc-mul k d, add-comm (k *ℕ d) d) (monic-mul m (monic-pow m k))
+  monic-pow {d} {g} m (suc k) = rw (pow-suc (PolyRing 𝓡) g k, suc-mul k d, add-comm (k * d) d) (monic-mul m (monic-pow m k))
 
   pub monic-pow-x : (k : ℕ) → Monic k (pow (PolyRing 𝓡) x k)
   monic-pow-x k = rw (mul-oneℕ k) at (monic-pow monic-x k)

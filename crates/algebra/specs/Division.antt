@@ -5,12 +5,12 @@ use Prim.Native.Nat.{ℕ, zero, suc}
 use native.Mathlib.Omega.{arith}
 use Rattle.algebra.specs.Ring.{CommRing, ring, mul-one, add-neg, add-left-cancel, eq-of-sub, linear1}
 use Rattle.algebra.specs.Identities.{con, _⊕_, _⊖_, _⊗_, _≈_, solve}
-use Rattle.algebra.specs.Polynomials.{
+use Rattle.algebra.specs.PolynomialRing.{
   Poly,
   PolyRing,
-  _+_,
+  _+ᴿ_,
   _·_,
-  -_,
+  -ᴿ_,
   𝟎,
   𝟏,
   x,
@@ -42,20 +42,15 @@ module _ {R : Type 0} {𝓡 : CommRing R} where
   pub record Divided (d : ℕ) (g a : Poly 𝓡) : Type 0 where
     pub quotient : Poly 𝓡
     pub remainder : Poly 𝓡
-    pub law : quotient · g + remainder ≡ a
+    pub law : quotient · g +ᴿ remainder ≡ a
     pub small : Below d remainder
 
   -- s, of degree d at most, less its multiple of g that takes the top term away
-  pub below-top : {d : ℕ} {g : Poly 𝓡} → Monic d g → (s : Poly 𝓡) → Below (suc d) s → Below d (s + - (constant (s .coef d) · g))
+  pub below-top : {d : ℕ} {g : Poly 𝓡} → Monic d g → (s : Poly 𝓡) → Below (suc d) s → Below d (s +ᴿ -ᴿ (constant (s .coef d) · g))
   below-top {d} {g} m s h = below-down (below-add h (below-neg (below-constant-mul (s .coef d) (m .below)))) gone
     where
-      gone : (s + - (constant (s .coef d) · g)) .coef d ≡ 𝓡 .𝟘
-      gone =
-          coef-add s (- (constant (s .coef d) · g)) d
-          ∙ ap (𝓡 .add (s .coef d)) (coef-neg (constant (s .coef d) · g) d ∙ ap (𝓡 .neg) (coef-constant-mul (s .coef d) g d))
-          ∙ ap (λ c. 𝓡 .add (s .coef d) (𝓡 .neg (𝓡 .mul (s .coef d) c))) (m .leading)
-          ∙ ap (λ c. 𝓡 .add (s .coef d) (𝓡 .neg c)) (mul-one 𝓡 (s .coef d))
-          ∙ add-neg 𝓡 (s .coef d)
+      gone : (s +ᴿ -ᴿ (constant (s .coef d) · g)) .coef d ≡ 𝓡 .𝟘
+      gone = simp (coef-add, coef-neg, coef-constant-mul, m .leading, mul-one, add-neg)
 
   -- by recursion on a bound of the dividend: a = a₀ + x·t, where t leaves r, leaves what a₀ + x·r does
   pub divide-from : {d : ℕ} {g : Poly 𝓡} → Monic d g → (n : ℕ) (a : Poly 𝓡) → Below n a → Divided d g a
@@ -69,28 +64,28 @@ module _ {R : Type 0} {𝓡 : CommRing R} where
     where
       step : Divided d g (tail a) → Divided d g a
       step t =
-          let s : Poly 𝓡 = constant (a .coef 0) + x · t .remainder in
+          let s : Poly 𝓡 = constant (a .coef 0) +ᴿ x · t .remainder in
           let c : Poly 𝓡 = constant (s .coef d) in
           record {
-            quotient = x · t .quotient + c;
-            remainder = s + - (c · g);
+            quotient = x · t .quotient +ᴿ c;
+            remainder = s +ᴿ -ᴿ (c · g);
             law = solve (PolyRing 𝓡) 6
                 (λ x q g r c b. (x ⊗ q ⊕ c) ⊗ g ⊕ (b ⊕ x ⊗ r ⊖ c ⊗ g) ≈ b ⊕ x ⊗ (q ⊗ g ⊕ r)) tt
                 x (t .quotient) g (t .remainder) c (constant (a .coef 0))
-                ∙ ap (λ b. constant (a .coef 0) + x · b) (t .law)
+                ∙ ap (λ b. constant (a .coef 0) +ᴿ x · b) (t .law)
                 ∙ sym (head-tail a);
             small = below-top m s (below-add (below-up (omega arith) (below-constant (a .coef 0))) (below-x-mul (t .small)));
           }
 
   -- only one quotient and one remainder multiply out to a
   pub divided-unique : {d : ℕ} {g : Poly 𝓡} → Monic d g → (q r q′ r′ : Poly 𝓡) → Below d r → Below d r′
-      → q · g + r ≡ q′ · g + r′ → (q ≡ q′) × (r ≡ r′)
-  divided-unique {d} {g} m q r q′ r′ hr hr′ e = (same, add-left-cancel (PolyRing 𝓡) (e ∙ ap (λ w. w · g + r′) (sym same)))
+      → q · g +ᴿ r ≡ q′ · g +ᴿ r′ → (q ≡ q′) × (r ≡ r′)
+  divided-unique {d} {g} m q r q′ r′ hr hr′ e = (same, add-left-cancel (PolyRing 𝓡) (e ∙ ap (λ w. w · g +ᴿ r′) (sym same)))
     where
-      difference : (q + - q′) · g ≡ r′ + - r
+      difference : (q +ᴿ -ᴿ q′) · g ≡ r′ +ᴿ -ᴿ r
       difference =
           linear1 (PolyRing 𝓡) 𝟏 e
           (solve (PolyRing 𝓡) 5 (λ q r q′ r′ g. (q ⊖ q′) ⊗ g ⊖ (r′ ⊖ r) ≈ con 1 ⊗ (q ⊗ g ⊕ r ⊖ (q′ ⊗ g ⊕ r′))) tt q r q′ r′ g)
 
       same : q ≡ q′
-      same = eq-of-sub (PolyRing 𝓡) (small-multiple m (q + - q′) (rw difference (below-add hr′ (below-neg hr))))
+      same = eq-of-sub (PolyRing 𝓡) (small-multiple m (q +ᴿ -ᴿ q′) (rw difference (below-add hr′ (below-neg hr))))

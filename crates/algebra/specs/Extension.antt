@@ -2,7 +2,7 @@
 -- Proves that ℤ/p² → ℤ/p is one, with π = p and the lift by digits, and that polynomials over an extension are one again.
 -- Assumes nothing.
 use mathlib.Core.Path.{_≡_, refl, sym, _∙_, ap}
-use Prim.Native.Nat.{ℕ, _<_, _%_, _/_, _*_ as _*ℕ_, _+_ as _+ℕ_}
+use Prim.Native.Nat.{ℕ, _<_, _%_, _/_, _*_, _+_}
 use native.Mathlib.Nat.{mul-pos, mod-mod-of-dvd, dvd-mul-right, zero-mod, zero-div, div-add-mod, eq-of-mul-eq-mul-left, mul-mod-right}
 use native.Mathlib.Omega.{arith}
 use Rattle.algebra.specs.Ring.{CommRing}
@@ -20,109 +20,110 @@ use Rattle.algebra.specs.Residues.{
   value-residue,
   zero-remainder,
 }
-use Rattle.algebra.specs.Polynomials.{Poly, PolyRing, constant, each, poly-ext, coef-zero, coef-constant-mul, constant-mul, constant-zero}
+use Rattle.algebra.specs.PolynomialRing.{Poly, PolyRing, constant, each, poly-ext, coef-zero, coef-constant-mul, constant-mul, constant-zero}
 use Rattle.algebra.specs.Homomorphisms.{Homomorphism, map-poly, map-homomorphism, map-constant}
+use Rattle.specification.specs.Limits.{_²}
 
 pub record Extension {A B : Type 0} (𝓐 : CommRing A) (𝓑 : CommRing B) (bar : A → B) : Type 0 where
   pub hom : Homomorphism 𝓐 𝓑 bar
   pub lift : B → A
-  pub lift-zero : lift (𝓑 .𝟘) ≡ 𝓐 .𝟘
-  pub bar-lift : (b : B) → bar (lift b) ≡ b
+  pub liftZero : lift (𝓑 .𝟘) ≡ 𝓐 .𝟘
+  pub barLift : (b : B) → bar (lift b) ≡ b
   pub π : A
-  pub bar-π : bar π ≡ 𝓑 .𝟘
+  pub barπ : bar π ≡ 𝓑 .𝟘
   pub square : 𝓐 .mul π π ≡ 𝓐 .𝟘
   -- a / π, for an a in the kernel
   pub part : A → A
-  pub part-zero : part (𝓐 .𝟘) ≡ 𝓐 .𝟘
+  pub partZero : part (𝓐 .𝟘) ≡ 𝓐 .𝟘
   pub kernel : (a : A) → bar a ≡ 𝓑 .𝟘 → a ≡ 𝓐 .mul π (part a)
   pub kill : (a : A) → 𝓐 .mul π a ≡ 𝓐 .𝟘 → bar a ≡ 𝓑 .𝟘
 
 -- ---- ℤ/p² → ℤ/p
 
 -- "a bar means reduction modulo p"
-unfoldable pub bar : (p : ℕ) → ℤ/ (p *ℕ p) → ℤ/ p
+unfoldable pub bar : (p : ℕ) → ℤ/ (p ²) → ℤ/ p
 bar p a = residue p (a .value)
 
 zero-value : (n : ℕ) → 0 < n → (Residues n) .𝟘 .value ≡ 0
 zero-value n pos = ap (λ (a : ℤ/ n). a .value) (sym (residue-zero n)) ∙ value-residue n pos 0 ∙ zero-mod n
 
 module _ (p : ℕ) (pos : 0 < p) where
-  square-pos : 0 < p *ℕ p
+  square-pos : 0 < p ²
   square-pos = mul-pos pos pos
 
-  pub bar-residue : (k : ℕ) → bar p (residue (p *ℕ p) k) ≡ residue p k
+  pub bar-residue : (k : ℕ) → bar p (residue (p ²) k) ≡ residue p k
   unfolding bar
   bar-residue k =
       residue-path
-      (value-residue p pos _ ∙ ap (λ (m : ℕ). m % p) (value-residue (p *ℕ p) square-pos k)
+      (value-residue p pos _ ∙ ap (λ (m : ℕ). m % p) (value-residue (p ²) square-pos k)
       ∙ mod-mod-of-dvd p k (dvd-mul-right p p) ∙ sym (value-residue p pos k))
 
-  bar-homomorphism : Homomorphism (Residues (p *ℕ p)) (Residues p) (bar p)
+  bar-homomorphism : Homomorphism (Residues (p ²)) (Residues p) (bar p)
   bar-homomorphism = record {
-    keeps-add = λ a b. ap (bar p) (sum a b) ∙ bar-residue (a .value +ℕ b .value) ∙ residue-add p (a .value) (b .value) ∙ unfold bar in refl;
-    keeps-mul = λ a b. ap (bar p) (times a b) ∙ bar-residue (a .value *ℕ b .value) ∙ residue-mul p (a .value) (b .value) ∙ unfold bar in refl;
-    keeps-one = ap (bar p) (sym (residue-one (p *ℕ p))) ∙ bar-residue 1 ∙ residue-one p;
+    keepsAdd = λ a b. ap (bar p) (sum a b) ∙ bar-residue (a .value + b .value) ∙ residue-add p (a .value) (b .value) ∙ unfold bar in refl;
+    keepsMul = λ a b. ap (bar p) (times a b) ∙ bar-residue (a .value * b .value) ∙ residue-mul p (a .value) (b .value) ∙ unfold bar in refl;
+    keepsOne = ap (bar p) (sym (residue-one (p ²))) ∙ bar-residue 1 ∙ residue-one p;
   }
     where
-      sum : (a b : ℤ/ (p *ℕ p)) → (Residues (p *ℕ p)) .add a b ≡ residue (p *ℕ p) (a .value +ℕ b .value)
+      sum : (a b : ℤ/ (p ²)) → (Residues (p ²)) .add a b ≡ residue (p ²) (a .value + b .value)
       sum a b = unfold Residues in refl
 
-      times : (a b : ℤ/ (p *ℕ p)) → (Residues (p *ℕ p)) .mul a b ≡ residue (p *ℕ p) (a .value *ℕ b .value)
+      times : (a b : ℤ/ (p ²)) → (Residues (p ²)) .mul a b ≡ residue (p ²) (a .value * b .value)
       times a b = unfold Residues in refl
 
-  residue-kernel : (a : ℤ/ (p *ℕ p)) → bar p a ≡ (Residues p) .𝟘
-      → a ≡ (Residues (p *ℕ p)) .mul (residue (p *ℕ p) p) (residue (p *ℕ p) (a .value / p))
+  residue-kernel : (a : ℤ/ (p ²)) → bar p a ≡ (Residues p) .𝟘
+      → a ≡ (Residues (p ²)) .mul (residue (p ²) p) (residue (p ²) (a .value / p))
   residue-kernel a e =
-      sym (residue-value (p *ℕ p) a) ∙ ap (residue (p *ℕ p)) whole ∙ residue-mul (p *ℕ p) p (a .value / p)
+      sym (residue-value (p ²) a) ∙ ap (residue (p ²)) whole ∙ residue-mul (p ²) p (a .value / p)
     where
       gone : a .value % p ≡ 0
       gone = zero-remainder p pos (a .value) (unfold bar in e)
 
-      whole : a .value ≡ p *ℕ (a .value / p)
+      whole : a .value ≡ p * (a .value / p)
       whole = omega (arith, gone, div-add-mod (a .value) p)
 
-  residue-kill : (a : ℤ/ (p *ℕ p)) → (Residues (p *ℕ p)) .mul (residue (p *ℕ p) p) a ≡ (Residues (p *ℕ p)) .𝟘 → bar p a ≡ (Residues p) .𝟘
+  residue-kill : (a : ℤ/ (p ²)) → (Residues (p ²)) .mul (residue (p ²) p) a ≡ (Residues (p ²)) .𝟘 → bar p a ≡ (Residues p) .𝟘
   residue-kill a e = unfold bar in residue-path (value-residue p pos (a .value) ∙ gone) ∙ residue-zero p
     where
       q : ℕ
-      q = p *ℕ a .value / (p *ℕ p)
+      q = p * a .value / (p ²)
 
-      multiple : p *ℕ a .value % (p *ℕ p) ≡ 0
+      multiple : p * a .value % (p ²) ≡ 0
       multiple =
-          zero-remainder (p *ℕ p) square-pos (p *ℕ a .value)
-          (residue-mul (p *ℕ p) p (a .value) ∙ ap ((Residues (p *ℕ p)) .mul (residue (p *ℕ p) p)) (residue-value (p *ℕ p) a) ∙ e)
+          zero-remainder (p ²) square-pos (p * a .value)
+          (residue-mul (p ²) p (a .value) ∙ ap ((Residues (p ²)) .mul (residue (p ²) p)) (residue-value (p ²) a) ∙ e)
 
-      divided : a .value ≡ p *ℕ q
-      divided = eq-of-mul-eq-mul-left p pos (a .value) (p *ℕ q) (omega (arith, multiple, div-add-mod (p *ℕ a .value) (p *ℕ p)))
+      divided : a .value ≡ p * q
+      divided = eq-of-mul-eq-mul-left p pos (a .value) (p * q) (omega (arith, multiple, div-add-mod (p * a .value) (p ²)))
 
       gone : a .value % p ≡ (residue p 0) .value
       gone = ap (λ (m : ℕ). m % p) divided ∙ mul-mod-right p q ∙ sym (value-residue p pos 0 ∙ zero-mod p)
 
   -- the lift reads the same digits modulo p²
-  pub residue-extension : Extension (Residues (p *ℕ p)) (Residues p) (bar p)
+  pub residue-extension : Extension (Residues (p ²)) (Residues p) (bar p)
   residue-extension = record {
     hom = bar-homomorphism;
-    lift = λ b. residue (p *ℕ p) (b .value);
-    lift-zero = ap (residue (p *ℕ p)) (zero-value p pos) ∙ residue-zero (p *ℕ p);
-    bar-lift = λ b. bar-residue (b .value) ∙ residue-value p b;
-    π = residue (p *ℕ p) p;
-    bar-π = bar-residue p ∙ residue-self p pos;
-    square = sym (residue-mul (p *ℕ p) p p) ∙ residue-self (p *ℕ p) square-pos;
-    part = λ a. residue (p *ℕ p) (a .value / p);
-    part-zero = ap (λ (m : ℕ). residue (p *ℕ p) (m / p)) (zero-value (p *ℕ p) square-pos) ∙ ap (residue (p *ℕ p)) (zero-div p) ∙ residue-zero (p *ℕ p);
+    lift = λ b. residue (p ²) (b .value);
+    liftZero = ap (residue (p ²)) (zero-value p pos) ∙ residue-zero (p ²);
+    barLift = λ b. bar-residue (b .value) ∙ residue-value p b;
+    π = residue (p ²) p;
+    barπ = bar-residue p ∙ residue-self p pos;
+    square = sym (residue-mul (p ²) p p) ∙ residue-self (p ²) square-pos;
+    part = λ a. residue (p ²) (a .value / p);
+    partZero = ap (λ (m : ℕ). residue (p ²) (m / p)) (zero-value (p ²) square-pos) ∙ ap (residue (p ²)) (zero-div p) ∙ residue-zero (p ²);
     kernel = residue-kernel;
     kill = residue-kill;
   }
 
-  pub residue-π : residue-extension .π ≡ residue (p *ℕ p) p
+  pub residue-π : residue-extension .π ≡ residue (p ²) p
   unfolding residue-extension
   residue-π = refl
 
-  pub residue-lift : (b : ℤ/ p) → residue-extension .lift b ≡ residue (p *ℕ p) (b .value)
+  pub residue-lift : (b : ℤ/ p) → residue-extension .lift b ≡ residue (p ²) (b .value)
   unfolding residue-extension
   residue-lift b = refl
 
-  pub residue-part : (a : ℤ/ (p *ℕ p)) → residue-extension .part a ≡ residue (p *ℕ p) (a .value / p)
+  pub residue-part : (a : ℤ/ (p ²)) → residue-extension .part a ≡ residue (p ²) (a .value / p)
   unfolding residue-extension
   residue-part a = refl
 
@@ -134,16 +135,16 @@ module _ {A B : Type 0} {𝓐 : CommRing A} {𝓑 : CommRing B} {bar : A → B} 
   unfolding each
   poly-extension = record {
     hom = map-homomorphism (E .hom);
-    lift = each (E .lift) (E .lift-zero);
-    lift-zero = poly-ext (λ k. ap (E .lift) (coef-zero 𝓑 k) ∙ E .lift-zero ∙ sym (coef-zero 𝓐 k));
-    bar-lift = λ b. poly-ext (λ k. E .bar-lift (b .coef k));
+    lift = each (E .lift) (E .liftZero);
+    liftZero = poly-ext (λ k. ap (E .lift) (coef-zero 𝓑 k) ∙ E .liftZero ∙ sym (coef-zero 𝓐 k));
+    barLift = λ b. poly-ext (λ k. E .barLift (b .coef k));
     π = constant (E .π);
-    bar-π = map-constant (E .hom) (E .π) ∙ ap constant (E .bar-π) ∙ constant-zero 𝓑;
+    barπ = map-constant (E .hom) (E .π) ∙ ap constant (E .barπ) ∙ constant-zero 𝓑;
     square = sym (constant-mul (E .π) (E .π)) ∙ ap constant (E .square) ∙ constant-zero 𝓐;
-    part = each (E .part) (E .part-zero);
-    part-zero = poly-ext (λ k. ap (E .part) (coef-zero 𝓐 k) ∙ E .part-zero ∙ sym (coef-zero 𝓐 k));
+    part = each (E .part) (E .partZero);
+    partZero = poly-ext (λ k. ap (E .part) (coef-zero 𝓐 k) ∙ E .partZero ∙ sym (coef-zero 𝓐 k));
     kernel = λ a e. poly-ext (λ k.
-        E .kernel (a .coef k) (ap (λ b. b .coef k) e ∙ coef-zero 𝓑 k) ∙ sym (coef-constant-mul (E .π) (each (E .part) (E .part-zero) a) k));
+        E .kernel (a .coef k) (ap (λ b. b .coef k) e ∙ coef-zero 𝓑 k) ∙ sym (coef-constant-mul (E .π) (each (E .part) (E .partZero) a) k));
     kill = λ a e. poly-ext (λ k.
         E .kill (a .coef k) (sym (coef-constant-mul (E .π) a k) ∙ ap (λ b. b .coef k) e ∙ coef-zero 𝓐 k) ∙ sym (coef-zero 𝓑 k));
   }

@@ -3,13 +3,13 @@
 use mathlib.Core.Path.{_≡_, sym, _∙_, ap, subst}
 use mathlib.Core.Bool.{Bool, not, _&&_}
 use mathlib.Core.Logic.{_⊎_, inl, inr, _≢_}
-use Prim.Native.Nat.{ℕ, zero, suc, _+_ as _+ℕ_, _*_ as _*ℕ_, _-_, _<_, _≤_, _%_, _/_}
+use Prim.Native.Nat.{ℕ, zero, suc, _+_, _*_, _-_, _<_, _≤_, _%_, _/_}
 use native.Mathlib.Nat.{mod-lt, div-add-mod, pos-of-ne-zero, eq-or-lt-of-le, mod-eq-of-lt}
 use native.Mathlib.Decide.{ℕ-discrete}
 use native.Mathlib.Omega.{arith}
 use lib.Dec.{T, eqb, leb, leb→le}
 use Rattle.specification.specs.Limits.{primes, taken}
-use Rattle.specification.specs.Lists.{all, upFrom}
+use Rattle.specification.specs.Lists.{allPass, upFrom}
 use Rattle.algebra.specs.Ring.{CommRing, zero-mul, neg-zero, add-zero as add-𝟘}
 use Rattle.algebra.specs.Identities.{_⊕_, _⊖_, _⊗_, ⊝_, _≈_, solve}
 use Rattle.algebra.specs.Divisibility.{unit-cancel}
@@ -27,14 +27,15 @@ use Rattle.algebra.specs.Residues.{
   value-below,
   zero-remainder,
 }
-use Rattle.algebra.specs.Tests.{left, right}
-use Rattle.algebra.specs.ListLaws.{all-member, member-passes, upFrom-has}
+use Rattle.lists.specs.Tests.{left, right}
+use Rattle.lists.specs.AllAny.{all-member, member-passes}
+use Rattle.lists.specs.NumbersFrom.{upFrom-has}
 
 -- equality is decided, and what is not 𝟘 has an inverse
 pub record Field {R : Type 0} (𝓡 : CommRing R) : Type 0 where
   pub decide : Discrete R
   pub inverse : (a : R) → a ≢ 𝓡 .𝟘 → (b : R) × (𝓡 .mul a b ≡ 𝓡 .𝟙)
-  pub one-ne-zero : 𝓡 .𝟙 ≢ 𝓡 .𝟘
+  pub oneNeZero : 𝓡 .𝟙 ≢ 𝓡 .𝟘
 
 -- what is not 𝟘 cancels
 pub field-cancel : {R : Type 0} {𝓡 : CommRing R} → Field 𝓡 → {x y : R} → x ≢ 𝓡 .𝟘 → 𝓡 .mul x y ≡ 𝓡 .𝟘 → y ≡ 𝓡 .𝟘
@@ -64,34 +65,34 @@ residue-nontrivial {n} l e =
     omega (arith, zero-remainder n (omega arith) 1 (residue-one n ∙ e), mod-eq-of-lt l)
 
 module _ (p : ℕ) (P : Prime p) where
-  infixl 60 _+_
-  infixl 70 _*_
-  open CommRing (Residues p) using (add as _+_, mul as _*_, neg, 𝟘, 𝟙)
+  infixl 60 _+ᴿ_
+  infixl 70 _*ᴿ_
+  open CommRing (Residues p) using (add as _+ᴿ_, mul as _*ᴿ_, neg, 𝟘, 𝟙)
 
   -- from a·q + r = p and r·b = 1
-  invert-step : (a q r : ℕ) → a *ℕ q +ℕ r ≡ p → (b : ℤ/ p) → residue p r * b ≡ 𝟙 → residue p a * (neg (residue p q) * b) ≡ 𝟙
+  invert-step : (a q r : ℕ) → a * q + r ≡ p → (b : ℤ/ p) → residue p r *ᴿ b ≡ 𝟙 → residue p a *ᴿ (neg (residue p q) *ᴿ b) ≡ 𝟙
   invert-step a q r e b h =
       solve (Residues p) 4 (λ a q r b. a ⊗ (⊝ q ⊗ b) ≈ r ⊗ b ⊖ (a ⊗ q ⊕ r) ⊗ b) tt (residue p a) (residue p q) (residue p r) b
-      ∙ ap (λ c. residue p r * b + neg (c * b)) whole
+      ∙ ap (λ c. residue p r *ᴿ b +ᴿ neg (c *ᴿ b)) whole
       ∙ simp (zero-mul, neg-zero, add-𝟘) h
     where
-      whole : residue p a * residue p q + residue p r ≡ 𝟘
+      whole : residue p a *ᴿ residue p q +ᴿ residue p r ≡ 𝟘
       whole =
-          sym (residue-add p (a *ℕ q) r ∙ ap (λ c. c + residue p r) (residue-mul p a q)) ∙ ap (residue p) e
+          sym (residue-add p (a * q) r ∙ ap (λ c. c +ᴿ residue p r) (residue-mul p a q)) ∙ ap (residue p) e
           ∙ residue-self p (prime-pos P)
 
   -- by descent on a bound n of a
-  invert : (n a : ℕ) → a ≤ n → 0 < a → a < p → (b : ℤ/ p) × (residue p a * b ≡ 𝟙)
+  invert : (n a : ℕ) → a ≤ n → 0 < a → a < p → (b : ℤ/ p) × (residue p a *ᴿ b ≡ 𝟙)
   invert zero a l z s = absurd (omega arith)
   invert (suc n) a l z s = go (eq-or-lt-of-le z) (λ r h k. invert n r h k)
     where
-      go : (1 ≡ a) ⊎ (1 < a) → ((r : ℕ) → r ≤ n → 0 < r → r < p → (b : ℤ/ p) × (residue p r * b ≡ 𝟙))
-          → (b : ℤ/ p) × (residue p a * b ≡ 𝟙)
-      go (inl e) f = (𝟙, ap (λ (k : ℕ). residue p k * 𝟙) (sym e) ∙ ap (λ c. c * 𝟙) (residue-one p) ∙ (Residues p) .*-one 𝟙)
+      go : (1 ≡ a) ⊎ (1 < a) → ((r : ℕ) → r ≤ n → 0 < r → r < p → (b : ℤ/ p) × (residue p r *ᴿ b ≡ 𝟙))
+          → (b : ℤ/ p) × (residue p a *ᴿ b ≡ 𝟙)
+      go (inl e) f = (𝟙, ap (λ (k : ℕ). residue p k *ᴿ 𝟙) (sym e) ∙ ap (λ c. c *ᴿ 𝟙) (residue-one p) ∙ (Residues p) .*-one 𝟙)
       go (inr k) f =
           let m = mod-lt p z in
           let t = f (p % a) (omega arith) (pos-of-ne-zero (P .undivided a k s)) (omega arith) in
-          (neg (residue p (p / a)) * t .0, invert-step a (p / a) (p % a) (div-add-mod p a) (t .0) (t .1))
+          (neg (residue p (p / a)) *ᴿ t .0, invert-step a (p / a) (p % a) (div-add-mod p a) (t .0) (t .1))
 
   value-pos : (a : ℤ/ p) → a ≢ 𝟘 → 0 < a .value
   value-pos a h = pos-of-ne-zero (λ e. h (sym (residue-value p a) ∙ ap (residue p) e ∙ residue-zero p))
@@ -101,15 +102,15 @@ module _ (p : ℕ) (P : Prime p) where
     decide = residue-discrete p;
     inverse = λ a h.
         let t = invert (a .value) (a .value) (omega arith) (value-pos a h) (value-below p (prime-pos P) a) in
-        (t .0, ap (λ c. c * t .0) (sym (residue-value p a)) ∙ t .1);
-    one-ne-zero = residue-nontrivial (P .large);
+        (t .0, ap (λ c. c *ᴿ t .0) (sym (residue-value p a)) ∙ t .1);
+    oneNeZero = residue-nontrivial (P .large);
   }
 
 -- ---- the primes that document 01 takes
 
 -- no number from 2 to p − 1 divides p
 unfoldable isPrime : ℕ → Bool
-isPrime p = leb 2 p && all (λ (a : ℕ). not (eqb (p % a) 0)) (upFrom 2 (p - 2))
+isPrime p = leb 2 p && allPass (λ (a : ℕ). not (eqb (p % a) 0)) (upFrom 2 (p - 2))
 
 prime-by : (p : ℕ) → T (isPrime p) → Prime p
 unfolding isPrime
@@ -122,5 +123,5 @@ prime-by p t = record { large = leb→le 2 p (left (leb 2 p) _ t); undivided = u
 
 -- every taken prime is one: the test passes on the whole list
 pub taken-prime : (p : ℕ) → T (taken p) → Prime p
-unfolding taken primes isPrime all upFrom
+unfolding taken primes isPrime allPass upFrom
 taken-prime p t = prime-by p (member-passes isPrime p primes t tt)

@@ -124,9 +124,9 @@ open-from zero k e = e
 open-from (suc n) k f = open-from n (suc k) (f (var k))
 
 module _ {R : Type 0} (𝓡 : CommRing R) where
-  infixl 60 _+_
-  infixl 70 _*_
-  open CommRing 𝓡 using (add as _+_, mul as _*_, neg, 𝟘, 𝟙)
+  infixl 60 _+ᴿ_
+  infixl 70 _*ᴿ_
+  open CommRing 𝓡 using (add as _+ᴿ_, mul as _*ᴿ_, neg, 𝟘, 𝟙)
 
   abbrev look : List R → ℕ → R
   look [] n = 𝟘
@@ -136,9 +136,9 @@ module _ {R : Type 0} (𝓡 : CommRing R) where
   abbrev number : ℕ → R
   number zero = 𝟘
   number (suc zero) = 𝟙
-  number (suc (suc n)) = 𝟙 + number (suc n)
+  number (suc (suc n)) = 𝟙 +ᴿ number (suc n)
 
-  number-suc : (n : ℕ) → number (suc n) ≡ 𝟙 + number n
+  number-suc : (n : ℕ) → number (suc n) ≡ 𝟙 +ᴿ number n
   number-suc zero = sym (add-zero 𝓡 𝟙)
   number-suc (suc n) = refl
 
@@ -146,9 +146,9 @@ module _ {R : Type 0} (𝓡 : CommRing R) where
     abbrev eval : Expression → R
     eval (var k) = look ρ k
     eval (con n) = number n
-    eval (a ⊕ b) = eval a + eval b
-    eval (a ⊖ b) = eval a + neg (eval b)
-    eval (a ⊗ b) = eval a * eval b
+    eval (a ⊕ b) = eval a +ᴿ eval b
+    eval (a ⊖ b) = eval a +ᴿ neg (eval b)
+    eval (a ⊗ b) = eval a *ᴿ eval b
     eval (⊝ a) = neg (eval a)
 
     abbrev pub Means : Equation → Type 0
@@ -156,85 +156,85 @@ module _ {R : Type 0} (𝓡 : CommRing R) where
 
     product : Monomial → R
     product [] = 𝟙
-    product (k ∷ m) = look ρ k * product m
+    product (k ∷ m) = look ρ k *ᴿ product m
 
     sum : List Monomial → R
     sum [] = 𝟘
-    sum (m ∷ p) = product m + sum p
+    sum (m ∷ p) = product m +ᴿ sum p
 
-    product-insert : (k : ℕ) (m : Monomial) → product (insert compare k m) ≡ look ρ k * product m
+    product-insert : (k : ℕ) (m : Monomial) → product (insert compare k m) ≡ look ρ k *ᴿ product m
     unfolding product
     product-insert k [] = refl
     product-insert k (x ∷ m) = go (compare k x) (product-insert k m)
       where
-        go : (o : Ordering) → product (insert compare k m) ≡ look ρ k * product m
+        go : (o : Ordering) → product (insert compare k m) ≡ look ρ k *ᴿ product m
             → product (elim o [ Ordering·lt ↦ k ∷ x ∷ m | Ordering·eq ↦ k ∷ x ∷ m | Ordering·gt ↦ x ∷ insert compare k m ])
-            ≡ look ρ k * (look ρ x * product m)
+            ≡ look ρ k *ᴿ (look ρ x *ᴿ product m)
         go Ordering·lt e = refl
         go Ordering·eq e = refl
-        go Ordering·gt e = ap (λ z. look ρ x * z) e ∙ mul-left-comm 𝓡 (look ρ x) (look ρ k) (product m)
+        go Ordering·gt e = ap (λ z. look ρ x *ᴿ z) e ∙ mul-left-comm 𝓡 (look ρ x) (look ρ k) (product m)
 
     product-sort : (m : Monomial) → product (sort compare m) ≡ product m
     unfolding product
     product-sort [] = refl
-    product-sort (k ∷ m) = product-insert k (sort compare m) ∙ ap (λ z. look ρ k * z) (product-sort m)
+    product-sort (k ∷ m) = product-insert k (sort compare m) ∙ ap (λ z. look ρ k *ᴿ z) (product-sort m)
 
-    sum-insert : (m : Monomial) (p : List Monomial) → sum (insert (lex compare) m p) ≡ product m + sum p
+    sum-insert : (m : Monomial) (p : List Monomial) → sum (insert (lex compare) m p) ≡ product m +ᴿ sum p
     unfolding sum
     sum-insert m [] = refl
     sum-insert m (x ∷ p) = go (lex compare m x) (sum-insert m p)
       where
-        go : (o : Ordering) → sum (insert (lex compare) m p) ≡ product m + sum p
+        go : (o : Ordering) → sum (insert (lex compare) m p) ≡ product m +ᴿ sum p
             → sum (elim o [ Ordering·lt ↦ m ∷ x ∷ p | Ordering·eq ↦ m ∷ x ∷ p | Ordering·gt ↦ x ∷ insert (lex compare) m p ])
-            ≡ product m + (product x + sum p)
+            ≡ product m +ᴿ (product x +ᴿ sum p)
         go Ordering·lt e = refl
         go Ordering·eq e = refl
-        go Ordering·gt e = ap (λ z. product x + z) e ∙ add-left-comm 𝓡 (product x) (product m) (sum p)
+        go Ordering·gt e = ap (λ z. product x +ᴿ z) e ∙ add-left-comm 𝓡 (product x) (product m) (sum p)
 
     sum-sorted : (p : List Monomial) → sum (sorted p) ≡ sum p
     unfolding sum
     sum-sorted [] = refl
-    sum-sorted (m ∷ p) = sum-insert (sort compare m) (sorted p) ∙ ap₂ _+_ (product-sort m) (sum-sorted p)
+    sum-sorted (m ∷ p) = sum-insert (sort compare m) (sorted p) ∙ ap₂ _+ᴿ_ (product-sort m) (sum-sorted p)
 
-    product-append : (m n : Monomial) → product (m ++ n) ≡ product m * product n
+    product-append : (m n : Monomial) → product (m ++ n) ≡ product m *ᴿ product n
     unfolding product
     product-append [] n = sym (𝓡 .*-one (product n))
-    product-append (k ∷ m) n = ap (λ z. look ρ k * z) (product-append m n) ∙ sym (𝓡 .*-assoc (look ρ k) (product m) (product n))
+    product-append (k ∷ m) n = ap (λ z. look ρ k *ᴿ z) (product-append m n) ∙ sym (𝓡 .*-assoc (look ρ k) (product m) (product n))
 
-    sum-append : (p q : List Monomial) → sum (p ++ q) ≡ sum p + sum q
+    sum-append : (p q : List Monomial) → sum (p ++ q) ≡ sum p +ᴿ sum q
     unfolding sum
     sum-append [] q = sym (𝓡 .+-zero (sum q))
-    sum-append (m ∷ p) q = ap (λ z. product m + z) (sum-append p q) ∙ sym (𝓡 .+-assoc (product m) (sum p) (sum q))
+    sum-append (m ∷ p) q = ap (λ z. product m +ᴿ z) (sum-append p q) ∙ sym (𝓡 .+-assoc (product m) (sum p) (sum q))
 
-    sum-each : (m : Monomial) (q : List Monomial) → sum (each (λ n. m ++ n) q) ≡ product m * sum q
+    sum-each : (m : Monomial) (q : List Monomial) → sum (each (λ n. m ++ n) q) ≡ product m *ᴿ sum q
     unfolding sum
     sum-each m [] = sym (mul-zero 𝓡 (product m))
-    sum-each m (n ∷ q) = ap₂ _+_ (product-append m n) (sum-each m q) ∙ sym (𝓡 .distrib (product m) (product n) (sum q))
+    sum-each m (n ∷ q) = ap₂ _+ᴿ_ (product-append m n) (sum-each m q) ∙ sym (𝓡 .distrib (product m) (product n) (sum q))
 
-    sum-products : (p q : List Monomial) → sum (products p q) ≡ sum p * sum q
+    sum-products : (p q : List Monomial) → sum (products p q) ≡ sum p *ᴿ sum q
     unfolding sum
     sum-products [] q = sym (zero-mul 𝓡 (sum q))
     sum-products (m ∷ p) q =
         sum-append (each (λ n. m ++ n) q) (products p q)
-        ∙ ap₂ _+_ (sum-each m q) (sum-products p q)
+        ∙ ap₂ _+ᴿ_ (sum-each m q) (sum-products p q)
         ∙ sym (add-mul 𝓡 (product m) (sum p) (sum q))
 
     sum-ones : (n : ℕ) → sum (ones n) ≡ number n
     unfolding sum product
     sum-ones zero = refl
-    sum-ones (suc n) = ap (λ z. 𝟙 + z) (sum-ones n) ∙ sym (number-suc n)
+    sum-ones (suc n) = ap (λ z. 𝟙 +ᴿ z) (sum-ones n) ∙ sym (number-suc n)
 
     abbrev value : List Monomial → List Monomial → R
-    value p q = sum p + neg (sum q)
+    value p q = sum p +ᴿ neg (sum q)
 
-    value-add : (p q r s : List Monomial) → value p q + value r s ≡ sum (p ++ r) + neg (sum (q ++ s))
+    value-add : (p q r s : List Monomial) → value p q +ᴿ value r s ≡ sum (p ++ r) +ᴿ neg (sum (q ++ s))
     value-add p q r s = simp (ring, sum-append)
 
-    value-sub : (p q r s : List Monomial) → value p q + neg (value r s) ≡ sum (p ++ s) + neg (sum (q ++ r))
+    value-sub : (p q r s : List Monomial) → value p q +ᴿ neg (value r s) ≡ sum (p ++ s) +ᴿ neg (sum (q ++ r))
     value-sub p q r s = simp (ring, sum-append)
 
     value-mul : (p q r s : List Monomial)
-        → value p q * value r s ≡ sum (products p r ++ products q s) + neg (sum (products p s ++ products q r))
+        → value p q *ᴿ value r s ≡ sum (products p r ++ products q s) +ᴿ neg (sum (products p s ++ products q r))
     value-mul p q r s = simp (ring, sum-append, sum-products)
 
     value-neg : (p q : List Monomial) → neg (value p q) ≡ value q p
@@ -243,25 +243,25 @@ module _ {R : Type 0} (𝓡 : CommRing R) where
     sound : (e : Expression) → eval e ≡ value ((normal e) .0) ((normal e) .1)
     unfolding sum product
     sound (var k) = simp ring
-    sound (con n) = sym (ap₂ _+_ (sum-ones n) (neg-zero 𝓡) ∙ add-zero 𝓡 (number n))
-    sound (a ⊕ b) = ap₂ _+_ (sound a) (sound b) ∙ value-add ((normal a) .0) ((normal a) .1) ((normal b) .0) ((normal b) .1)
-    sound (a ⊖ b) = ap₂ (λ x y. x + neg y) (sound a) (sound b) ∙ value-sub ((normal a) .0) ((normal a) .1) ((normal b) .0) ((normal b) .1)
-    sound (a ⊗ b) = ap₂ _*_ (sound a) (sound b) ∙ value-mul ((normal a) .0) ((normal a) .1) ((normal b) .0) ((normal b) .1)
+    sound (con n) = sym (ap₂ _+ᴿ_ (sum-ones n) (neg-zero 𝓡) ∙ add-zero 𝓡 (number n))
+    sound (a ⊕ b) = ap₂ _+ᴿ_ (sound a) (sound b) ∙ value-add ((normal a) .0) ((normal a) .1) ((normal b) .0) ((normal b) .1)
+    sound (a ⊖ b) = ap₂ (λ x y. x +ᴿ neg y) (sound a) (sound b) ∙ value-sub ((normal a) .0) ((normal a) .1) ((normal b) .0) ((normal b) .1)
+    sound (a ⊗ b) = ap₂ _*ᴿ_ (sound a) (sound b) ∙ value-mul ((normal a) .0) ((normal a) .1) ((normal b) .0) ((normal b) .1)
     sound (⊝ a) = ap neg (sound a) ∙ value-neg ((normal a) .0) ((normal a) .1)
 
-    cross : {a b c d : R} → a + d ≡ c + b → a + neg b ≡ c + neg d
-    cross {a} {b} {c} {d} h = sym (drop a d b) ∙ ap₂ _+_ h (𝓡 .+-comm (neg d) (neg b)) ∙ drop c b d
+    cross : {a b c d : R} → a +ᴿ d ≡ c +ᴿ b → a +ᴿ neg b ≡ c +ᴿ neg d
+    cross {a} {b} {c} {d} h = sym (drop a d b) ∙ ap₂ _+ᴿ_ h (𝓡 .+-comm (neg d) (neg b)) ∙ drop c b d
       where
-        drop : (x y z : R) → x + y + (neg y + neg z) ≡ x + neg z
-        drop x y z = 𝓡 .+-assoc x y (neg y + neg z) ∙ ap (λ w. x + w) (add-neg-cancel 𝓡 y (neg z))
+        drop : (x y z : R) → x +ᴿ y +ᴿ (neg y +ᴿ neg z) ≡ x +ᴿ neg z
+        drop x y z = 𝓡 .+-assoc x y (neg y +ᴿ neg z) ∙ ap (λ w. x +ᴿ w) (add-neg-cancel 𝓡 y (neg z))
 
     solve-in : (e : Equation) → Holds e → Means e
     solve-in (l ≈ r) h = sound l ∙ cross crossed ∙ sym (sound r)
       where
-        both : (x y : Normal) → sum (sorted (x .0 ++ y .1)) ≡ sum (x .0) + sum (y .1)
+        both : (x y : Normal) → sum (sorted (x .0 ++ y .1)) ≡ sum (x .0) +ᴿ sum (y .1)
         both x y = sum-sorted (x .0 ++ y .1) ∙ sum-append (x .0) (y .1)
 
-        crossed : sum ((normal l) .0) + sum ((normal r) .1) ≡ sum ((normal r) .0) + sum ((normal l) .1)
+        crossed : sum ((normal l) .0) +ᴿ sum ((normal r) .1) ≡ sum ((normal r) .0) +ᴿ sum ((normal l) .1)
         crossed =
             sym (both (normal l) (normal r))
             ∙ ap sum (same-list (lex compare) (same-list compare same-number) _ _ h)

@@ -4,13 +4,13 @@
 use mathlib.Core.Path.{_≡_, sym, _∙_, ap}
 use mathlib.Core.HLevel.{Π-prop, ⊥-prop, isProp→PathP}
 use mathlib.Core.Logic.{_⊎_, inl, inr, _≢_, ∥∥₁-elim, ⊎-elim}
-use Prim.Native.Nat.{ℕ, zero, suc, _≤_, _<_, _+_ as _+ℕ_}
+use Prim.Native.Nat.{ℕ, zero, suc, _≤_, _<_, _+_}
 use native.Mathlib.Nat.{le-antisymm}
 use native.Mathlib.Omega.{arith}
 use Rattle.algebra.specs.Numbers.{lt-or-le}
 use Rattle.algebra.specs.Ring.{CommRing, mul-one, zero-mul, add-zero, eq-of-sub, sub-self}
 use Rattle.algebra.specs.Divisibility.{_∣_}
-use Rattle.algebra.specs.Polynomials.{Poly, PolyRing, _+_, _·_, -_, 𝟎, coef-zero}
+use Rattle.algebra.specs.PolynomialRing.{Poly, PolyRing, _+ᴿ_, _·_, -ᴿ_, 𝟎, coef-zero}
 use Rattle.algebra.specs.Degree.{Below, Monic, below-prop, below-zero, below-down, below-𝟎, below-mul, coef-top}
 use Rattle.algebra.specs.Division.{Divided, divide-from, divided-unique}
 
@@ -65,9 +65,9 @@ module _ {R : Type 0} {𝓡 : CommRing R} where
     is-zero a = ⊎-elim (λ e. yes e) (λ t. no (leading-nonzero t)) (leading a)
 
     pub poly-discrete : Discrete (Poly 𝓡)
-    poly-discrete a b = go (is-zero (a + - b))
+    poly-discrete a b = go (is-zero (a +ᴿ -ᴿ b))
       where
-        go : Dec (a + - b ≡ 𝟎) → Dec (a ≡ b)
+        go : Dec (a +ᴿ -ᴿ b ≡ 𝟎) → Dec (a ≡ b)
         go (yes e) = yes (eq-of-sub (PolyRing 𝓡) e)
         go (no k) = no (λ e. k (sub-self (PolyRing 𝓡) e))
 
@@ -81,29 +81,29 @@ module _ {R : Type 0} {𝓡 : CommRing R} where
         go t = test (is-zero (t .remainder))
           where
             test : Dec (t .remainder ≡ 𝟎) → Dec (_∣_ (PolyRing 𝓡) g a)
-            test (yes e) = yes (t .quotient, sym (add-zero (PolyRing 𝓡) (t .quotient · g)) ∙ ap (λ r. t .quotient · g + r) (sym e) ∙ t .law)
+            test (yes e) = yes (t .quotient, sym (add-zero (PolyRing 𝓡) (t .quotient · g)) ∙ ap (λ r. t .quotient · g +ᴿ r) (sym e) ∙ t .law)
             test (no k) = no (λ (q, e). k (sym (divided-unique m q 𝟎 (t .quotient) (t .remainder) (below-𝟎 d) (t .small)
                 (add-zero (PolyRing 𝓡) (q · g) ∙ e ∙ sym (t .law)) .1)))
 
     -- u·g and g are monic: so is u, and degrees add
-    pub monic-cofactor : 𝓡 .𝟙 ≢ 𝓡 .𝟘 → {d k : ℕ} (u g : Poly 𝓡) → Monic k g → Monic d (u · g) → (j : ℕ) × Monic j u × (j +ℕ k ≡ d)
+    pub monic-cofactor : 𝓡 .𝟙 ≢ 𝓡 .𝟘 → {d k : ℕ} (u g : Poly 𝓡) → Monic k g → Monic d (u · g) → (j : ℕ) × Monic j u × (j + k ≡ d)
     monic-cofactor ne {d} {k} u g mg m = go (leading u)
       where
-        go : (u ≡ 𝟎) ⊎ Leading u → (j : ℕ) × Monic j u × (j +ℕ k ≡ d)
+        go : (u ≡ 𝟎) ⊎ Leading u → (j : ℕ) × Monic j u × (j + k ≡ d)
         go (inl e) = absurd (ne (sym (m .leading) ∙ ap (λ a. (a · g) .coef d) e ∙ ap (λ a. a .coef d) (zero-mul (PolyRing 𝓡) g) ∙ coef-zero 𝓡 d))
         go (inr t) = (t .degree, record { leading = sym top ∙ ap (λ i. (u · g) .coef i) same ∙ m .leading; below = t .below }, same)
           where
-            top : (u · g) .coef (t .degree +ℕ k) ≡ u .coef (t .degree)
+            top : (u · g) .coef (t .degree + k) ≡ u .coef (t .degree)
             top = coef-top (t .below) (mg .below) ∙ ap (𝓡 .mul (u .coef (t .degree))) (mg .leading) ∙ mul-one 𝓡 (u .coef (t .degree))
 
-            up : t .degree +ℕ k ≤ d
+            up : t .degree + k ≤ d
             up =
-                ⊎-elim (λ l. absurd (t .nonzero (sym top ∙ m .below .high (t .degree +ℕ k) l))) (λ l. l) (lt-or-le d (t .degree +ℕ k))
+                ⊎-elim (λ l. absurd (t .nonzero (sym top ∙ m .below .high (t .degree + k) l))) (λ l. l) (lt-or-le d (t .degree + k))
 
-            down : d ≤ t .degree +ℕ k
+            down : d ≤ t .degree + k
             down =
                 ⊎-elim (λ l. absurd (ne (sym (m .leading) ∙ below-mul {d = suc (t .degree)} (t .below) (mg .below) .high d (omega arith)))) (λ l. l)
-                (lt-or-le (t .degree +ℕ k) d)
+                (lt-or-le (t .degree + k) d)
 
-            same : t .degree +ℕ k ≡ d
+            same : t .degree + k ≡ d
             same = le-antisymm up down

@@ -4,14 +4,12 @@ pub mod Identities
 pub mod Divisibility
 pub mod Residues
 pub mod Series
-pub mod Polynomials
+pub mod PolynomialRing
 pub mod Monomials
 pub mod Degree
 pub mod Division
 pub mod Congruence
 pub mod Leading
-pub mod Tests
-pub mod ListLaws
 pub mod Fields
 pub mod TakenPrimes
 pub mod Bezout

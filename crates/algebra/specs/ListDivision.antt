@@ -15,20 +15,11 @@ use Rattle.algebra.specs.Ring.{linear1, linear2, add-zero}
 use Rattle.algebra.specs.Identities.{con, _⊕_, _⊖_, _⊗_, ⊝_, _≈_, solve}
 use Rattle.algebra.specs.Divisibility.{_∣_}
 use Rattle.algebra.specs.Residues.{residue, Residues, residue-zero, zero-remainder}
-use Rattle.algebra.specs.Polynomials.{PolyRing, _+_, _·_, -_, 𝟎, 𝟏, x, constant, poly-ext, coef-zero}
+use Rattle.algebra.specs.PolynomialRing.{_+ᴿ_, _·_, -ᴿ_, 𝟎, 𝟏, x, constant, poly-ext, coef-zero}
 use Rattle.algebra.specs.Degree.{Below, Monic, below-up, below-add, below-neg, below-factor, below-𝟎}
 use Rattle.algebra.specs.Division.{below-top, divided-unique}
-use Rattle.algebra.specs.CoefficientLists.{
-  ℤ[x]/,
-  poly,
-  coef-poly,
-  below-poly,
-  poly-nil,
-  poly-cons,
-  poly-sub,
-  poly-scale,
-}
-use Rattle.algebra.specs.ListLaws.{all-at, all-from}
+use Rattle.algebra.specs.CoefficientLists.{ℤ[x]/, poly, coef-poly, below-poly, poly-nil, poly-cons, poly-sub, poly-scale, 𝓩[x]/}
+use Rattle.lists.specs.AllAny.{all-at, all-from}
 use Rattle.algebra.specs.ListShapes.{length-sub, length-scale, low-reduce, low-take, getD-zeros}
 
 -- ---- parts of lists
@@ -84,15 +75,15 @@ module _ (n : ℕ) (pos : 0 < n) (d : ℕ) (g : List ℕ) (long : length g ≡ s
     unfolding spec.withoutTop
     without-top = rw degree-is
 
-    poly-less : poly n less ≡ poly n s + - (constant ((poly n s) .coef d) · poly n g)
+    poly-less : poly n less ≡ poly n s +ᴿ -ᴿ (constant ((poly n s) .coef d) · poly n g)
     poly-less =
         poly-sub n pos s (spec.scale n top g)
-        ∙ ap (λ h. poly n s + - h) (poly-scale n pos top g ∙ ap (λ c. constant c · poly n g) (sym (coef-poly n s d)))
+        ∙ ap (λ h. poly n s +ᴿ -ᴿ h) (poly-scale n pos top g ∙ ap (λ c. constant c · poly n g) (sym (coef-poly n s d)))
 
     below-less : Below d (poly n less)
     below-less = rw poly-less (below-top monic (poly n s) (subst (λ m. Below m (poly n s)) fits (below-poly n s)))
 
-    poly-without-top : poly n (spec.withoutTop n g s) ≡ poly n s + - (constant ((poly n s) .coef d) · poly n g)
+    poly-without-top : poly n (spec.withoutTop n g s) ≡ poly n s +ᴿ -ᴿ (constant ((poly n s) .coef d) · poly n g)
     poly-without-top = ap (poly n) without-top ∙ poly-take n d less below-less ∙ poly-less
 
     length-without-top : length (spec.withoutTop n g s) ≡ d
@@ -117,22 +108,22 @@ module _ (n : ℕ) (pos : 0 < n) (d : ℕ) (g : List ℕ) (long : length g ≡ s
   pub below-remainder : (f : List ℕ) → Below d (poly n (spec.remainder n g f))
   below-remainder f = subst (λ m. Below m (poly n (spec.remainder n g f))) (length-remainder f) (below-poly n (spec.remainder n g f))
 
-  quotients-law : (f : List ℕ) → poly n (spec.quotients n g f) · poly n g + poly n (spec.remainder n g f) ≡ poly n f
+  quotients-law : (f : List ℕ) → poly n (spec.quotients n g f) · poly n g +ᴿ poly n (spec.remainder n g f) ≡ poly n f
   unfolding spec.quotients spec.remainder
   quotients-law [] =
-      ap₂ (λ q r. q · poly n g + r) (poly-nil n) (poly-zeros n (spec.degree g))
-      ∙ solve (PolyRing (Residues n)) 1 (λ g. con 0 ⊗ g ⊕ con 0 ≈ con 0) tt (poly n g) ∙ sym (poly-nil n)
+      ap₂ (λ q r. q · poly n g +ᴿ r) (poly-nil n) (poly-zeros n (spec.degree g))
+      ∙ solve (𝓩[x]/ n) 1 (λ g. con 0 ⊗ g ⊕ con 0 ≈ con 0) tt (poly n g) ∙ sym (poly-nil n)
   quotients-law (a ∷ f) =
       let r : List ℕ = spec.remainder n g f in
       let q : List ℕ = spec.quotients n g f in
       let s : List ℕ = a ∷ r in
       let c : ℤ[x]/ n = constant ((poly n s) .coef d) in
-      ap₂ (λ q r. q · poly n g + r)
-      (poly-cons n (getD s (spec.degree g) 0) q ∙ ap (λ e. constant e + x · poly n q) (ap (λ k. residue n (getD s k 0)) degree-is ∙ sym (coef-poly n s d)))
-      (poly-without-top s (ap suc (length-remainder f)) ∙ ap (λ t. t + - (c · poly n g)) (poly-cons n a r))
-      ∙ solve (PolyRing (Residues n)) 6 (λ c x q g a r. (c ⊕ x ⊗ q) ⊗ g ⊕ (a ⊕ x ⊗ r ⊖ c ⊗ g) ≈ a ⊕ x ⊗ (q ⊗ g ⊕ r)) tt
+      ap₂ (λ q r. q · poly n g +ᴿ r)
+      (poly-cons n (getD s (spec.degree g) 0) q ∙ ap (λ e. constant e +ᴿ x · poly n q) (ap (λ k. residue n (getD s k 0)) degree-is ∙ sym (coef-poly n s d)))
+      (poly-without-top s (ap suc (length-remainder f)) ∙ ap (λ t. t +ᴿ -ᴿ (c · poly n g)) (poly-cons n a r))
+      ∙ solve (𝓩[x]/ n) 6 (λ c x q g a r. (c ⊕ x ⊗ q) ⊗ g ⊕ (a ⊕ x ⊗ r ⊖ c ⊗ g) ≈ a ⊕ x ⊗ (q ⊗ g ⊕ r)) tt
       c x (poly n q) (poly n g) (constant (residue n a)) (poly n r)
-      ∙ ap (λ t. constant (residue n a) + x · t) (quotients-law f)
+      ∙ ap (λ t. constant (residue n a) +ᴿ x · t) (quotients-law f)
       ∙ sym (poly-cons n a f)
 
   length-quotients : (f : List ℕ) → length (spec.quotients n g f) ≡ length f
@@ -145,10 +136,10 @@ module _ (n : ℕ) (pos : 0 < n) (d : ℕ) (g : List ℕ) (long : length g ≡ s
   below-quotients f = below-factor monic (length f - d) (poly n (spec.quotients n g f)) (rw multiple (below-add
       (below-up (omega arith) (below-poly n f)) (below-neg (below-up (omega arith) (below-remainder f)))))
     where
-      multiple : poly n (spec.quotients n g f) · poly n g ≡ poly n f + - poly n (spec.remainder n g f)
+      multiple : poly n (spec.quotients n g f) · poly n g ≡ poly n f +ᴿ -ᴿ poly n (spec.remainder n g f)
       multiple =
-          linear1 (PolyRing (Residues n)) 𝟏 (quotients-law f)
-          (solve (PolyRing (Residues n)) 4 (λ q g r f. q ⊗ g ⊖ (f ⊖ r) ≈ con 1 ⊗ (q ⊗ g ⊕ r ⊖ f)) tt
+          linear1 (𝓩[x]/ n) 𝟏 (quotients-law f)
+          (solve (𝓩[x]/ n) 4 (λ q g r f. q ⊗ g ⊖ (f ⊖ r) ≈ con 1 ⊗ (q ⊗ g ⊕ r ⊖ f)) tt
           (poly n (spec.quotients n g f)) (poly n g) (poly n (spec.remainder n g f)) (poly n f))
 
   quotient-is : (f : List ℕ) → spec.quotient n g f ≡ take (length f - d) (spec.quotients n g f)
@@ -162,8 +153,8 @@ module _ (n : ℕ) (pos : 0 < n) (d : ℕ) (g : List ℕ) (long : length g ≡ s
   length-quotient f = ap length (quotient-is f) ∙ length-take-le (length f - d) (spec.quotients n g f) (omega (arith, length-quotients f))
 
   -- quotient times divisor, plus remainder
-  pub division-law : (f : List ℕ) → poly n (spec.quotient n g f) · poly n g + poly n (spec.remainder n g f) ≡ poly n f
-  division-law f = ap (λ q. q · poly n g + poly n (spec.remainder n g f)) (poly-quotient f) ∙ quotients-law f
+  pub division-law : (f : List ℕ) → poly n (spec.quotient n g f) · poly n g +ᴿ poly n (spec.remainder n g f) ≡ poly n f
+  division-law f = ap (λ q. q · poly n g +ᴿ poly n (spec.remainder n g f)) (poly-quotient f) ∙ quotients-law f
 
   low-quotients : (f : List ℕ) → ((k : ℕ) → getD f k 0 < n) → (k : ℕ) → getD (spec.quotients n g f) k 0 < n
   unfolding spec.quotients
@@ -180,13 +171,13 @@ module _ (n : ℕ) (pos : 0 < n) (d : ℕ) (g : List ℕ) (long : length g ≡ s
 
   -- ---- divisors
 
-  pub divides-sound : (f : List ℕ) → T (spec.divides n g f) → _∣_ (PolyRing (Residues n)) (poly n g) (poly n f)
+  pub divides-sound : (f : List ℕ) → T (spec.divides n g f) → _∣_ (𝓩[x]/ n) (poly n g) (poly n f)
   divides-sound f t = (poly n (spec.quotient n g f), exact)
     where
       exact : poly n (spec.quotient n g f) · poly n g ≡ poly n f
       exact =
-          linear2 (PolyRing (Residues n)) 𝟏 (- 𝟏) (division-law f) (poly-isZero n (spec.remainder n g f) (unfold spec.divides in t))
-          (solve (PolyRing (Residues n)) 4 (λ q g r f. q ⊗ g ⊖ f ≈ con 1 ⊗ (q ⊗ g ⊕ r ⊖ f) ⊕ ⊝ con 1 ⊗ (r ⊖ con 0)) tt
+          linear2 (𝓩[x]/ n) 𝟏 (-ᴿ 𝟏) (division-law f) (poly-isZero n (spec.remainder n g f) (unfold spec.divides in t))
+          (solve (𝓩[x]/ n) 4 (λ q g r f. q ⊗ g ⊖ f ≈ con 1 ⊗ (q ⊗ g ⊕ r ⊖ f) ⊕ ⊝ con 1 ⊗ (r ⊖ con 0)) tt
           (poly n (spec.quotient n g f)) (poly n g) (poly n (spec.remainder n g f)) (poly n f))
 
   -- any cofactor is the quotient, and nothing is left
@@ -194,10 +185,10 @@ module _ (n : ℕ) (pos : 0 < n) (d : ℕ) (g : List ℕ) (long : length g ≡ s
       → (q ≡ poly n (spec.quotient n g f)) × (𝟎 ≡ poly n (spec.remainder n g f))
   divided-is f q e =
       divided-unique monic q 𝟎 (poly n (spec.quotient n g f)) (poly n (spec.remainder n g f)) (below-𝟎 d) (below-remainder f)
-      (add-zero (PolyRing (Residues n)) (q · poly n g) ∙ e ∙ sym (division-law f))
+      (add-zero (𝓩[x]/ n) (q · poly n g) ∙ e ∙ sym (division-law f))
 
-  pub divides-complete : (f : List ℕ) → _∣_ (PolyRing (Residues n)) (poly n g) (poly n f) → T (spec.divides n g f)
+  pub divides-complete : (f : List ℕ) → _∣_ (𝓩[x]/ n) (poly n g) (poly n f) → T (spec.divides n g f)
   divides-complete f (q, e) = unfold spec.divides in isZero-poly n pos (spec.remainder n g f) (low-remainder f) (sym (divided-is f q e .1))
 
-  pub divides-exact : (f : List ℕ) → _∣_ (PolyRing (Residues n)) (poly n g) (poly n f) → poly n (spec.quotient n g f) · poly n g ≡ poly n f
+  pub divides-exact : (f : List ℕ) → _∣_ (𝓩[x]/ n) (poly n g) (poly n f) → poly n (spec.quotient n g f) · poly n g ≡ poly n f
   divides-exact f (q, e) = ap (λ a. a · poly n g) (sym (divided-is f q e .0)) ∙ e

@@ -1,14 +1,15 @@
--- How long the specification's coefficient lists are, and that their entries are below the modulus.
--- Assumes nothing.
+-- The shapes of the specification's coefficient lists.
+-- Proves how long sums, multiples and products are, and that their entries are below the modulus. Assumes nothing.
 use mathlib.Core.Path.{_≡_, refl, sym, _∙_, ap}
 use mathlib.Core.List.{List, [], _∷_, map}
 use mathlib.Core.Logic.{⊎-elim}
 use Prim.Native.Nat.{ℕ, suc, _≤_, _<_, _+_, _*_, _%_, _-_}
 use native.Mathlib.Nat.{mod-lt, zero-mod}
 use native.Mathlib.Omega.{arith}
-use lib.ListN.{length, getD, take, replicate, length-map, length-take, length-replicate, getD-replicate, List·getD-eq-default, List·getD-map}
+use lib.ListN.{length, getD, take, replicate, length-map, length-take, List·getD-eq-default, List·getD-map}
 use lib.Seq.{getD-take}
 use Rattle.specification.specs.Polynomials.{plus, multiple, shift, times, reduce, add, scale, sub, mul}
+use Rattle.lists.specs.Places.{read-replicate}
 use Rattle.algebra.specs.Numbers.{lt-or-le}
 
 length-plus : (f g : List ℕ) → length g ≤ length f → length (plus f g) ≡ length f
@@ -68,9 +69,7 @@ length-mul n (a ∷ f) (b ∷ g) h k = length-reduce n (times (a ∷ f) (b ∷ g
 
 -- a list of zeros is 0 everywhere
 pub getD-zeros : (k j : ℕ) → _≡_ {A = ℕ} (getD (replicate k 0) j 0) 0
-getD-zeros k j =
-    ⊎-elim (λ l. getD-replicate k j 0 0 l)
-    (λ l. List·getD-eq-default (replicate k 0) 0 {n = j} (omega (arith, length-replicate {A = ℕ} k 0))) (lt-or-le j k)
+getD-zeros k j = read-replicate 0 k j
 
 -- ---- entries below the modulus
 

@@ -5,7 +5,7 @@ use Prim.Native.Nat.{ℕ, zero, suc, _≤_, _<_, _-_}
 use native.Mathlib.Omega.{arith}
 use Rattle.algebra.specs.Ring.{CommRing, one-mul, mul-one, mul-assoc}
 use Rattle.algebra.specs.Divisibility.{pow, pow-zero, pow-suc}
-use Rattle.algebra.specs.Polynomials.{Poly, PolyRing, _·_, 𝟏, x, coef-x-mul-zero, coef-x-mul-suc}
+use Rattle.algebra.specs.PolynomialRing.{Poly, PolyRing, _·_, 𝟏, x, coef-x-mul-zero, coef-x-mul-suc}
 
 module _ {R : Type 0} {𝓡 : CommRing R} where
   -- x to the power k

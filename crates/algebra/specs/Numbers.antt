@@ -1,10 +1,11 @@
--- Facts on natural numbers that the kit's library lacks: that a < b or b ≤ a, remainders inside a remainder, that p² is above 1 and not below p, and what k·d
--- leaves of m·d. Assumes nothing.
+-- Natural numbers, where the kit's library lacks a fact; the ruleset `modulo` for `simp`.
+-- Proves that a < b or b ≤ a, remainders inside a remainder, that p² is above 1 and not below p, and what k·d leaves of m·d. Assumes nothing.
 use mathlib.Core.Path.{_≡_, sym, _∙_, ap}
 use mathlib.Core.Logic.{_⊎_, inl, inr, ⊎-elim}
 use Prim.Native.Nat.{ℕ, zero, suc, _+_, _*_, _-_, _%_, _/_, _<_, _≤_, zero-le, suc-le-suc}
 use native.Mathlib.Nat.{mul-le-mul-left, mod-mod, mod-add-mod, add-mod-mod, mul-comm, add-mul-mod-self-left, mod-add-div}
 use native.Mathlib.Omega.{arith}
+use Rattle.specification.specs.Limits.{_²}
 
 pub lt-or-le : (a b : ℕ) → (a < b) ⊎ (b ≤ a)
 lt-or-le a zero = inr zero-le
@@ -22,10 +23,10 @@ mod-mul-mod a b n = rw (mul-comm (a % n) b, mul-mod-mod, mul-comm b a)
 
 pub ruleset modulo = (mod-add-mod, add-mod-mod, mod-mul-mod, mul-mod-mod, mod-mod)
 
-pub square-large : (p : ℕ) → 1 < p → 1 < p * p
+pub square-large : (p : ℕ) → 1 < p → 1 < p ²
 square-large p large = omega (arith, mul-le-mul-left p (let l : 1 ≤ p = omega arith in l))
 
-pub square-least : (p : ℕ) → p ≤ p * p
+pub square-least : (p : ℕ) → p ≤ p ²
 square-least zero = zero-le
 square-least (suc p) = omega (arith, mul-le-mul-left (suc p) (let l : 1 ≤ suc p = omega arith in l))
 

@@ -1,10 +1,9 @@
--- The ring ℤ/n, as the numbers below n. It is taken for every n, with one element for n = 0, so that no statement
--- carries a proof that n is positive. `residue n x` is the class of the number x.
--- Proves the ring laws, that `residue n` turns sums and products of numbers into those of the ring, and that numbers of one class leave one
--- remainder. Assumes nothing.
+-- The ring ℤ/n, as the numbers below n, for every n (with one element for n = 0), so that no statement carries a proof that n is positive.
+-- `residue n x` is the class of the number x. Proves the ring laws, that `residue n` keeps sums and products, that numbers of one class leave
+-- one remainder, and that classes are inverse where the product of their numbers leaves 1. Assumes nothing.
 use mathlib.Core.Path.{_≡_, refl, sym, _∙_, ap}
 use mathlib.Core.HLevel.{Σ-set, prop→set, isProp→PathP}
-use Prim.Native.Nat.{ℕ, suc, _+_ as _+ℕ_, _*_ as _*ℕ_, _-_, _%_, _<_, _≤_}
+use Prim.Native.Nat.{ℕ, suc, _+_, _*_, _-_, _%_, _<_, _≤_}
 use native.Mathlib.Bridge.{le-prop}
 use native.Mathlib.Omega.{arith}
 use native.Mathlib.Nat.{
@@ -58,8 +57,8 @@ module _ (n : ℕ) where
   unfoldable pub Residues : CommRing (ℤ/ n)
   unfolding residue
   Residues = record {
-    add = λ a b. residue (a .value +ℕ b .value);
-    mul = λ a b. residue (a .value *ℕ b .value);
+    add = λ a b. residue (a .value + b .value);
+    mul = λ a b. residue (a .value * b .value);
     neg = λ a. residue (positive n - a .value);
     𝟘 = residue 0;
     𝟙 = residue 1;
@@ -74,15 +73,15 @@ module _ (n : ℕ) where
     distrib = λ a b c. residue-path (simp (modulo, mul-add));
   }
 
-  infixl 60 _+_
-  infixl 70 _*_
-  open CommRing Residues using (add as _+_, mul as _*_, neg, 𝟘, 𝟙)
+  infixl 60 _+ᴿ_
+  infixl 70 _*ᴿ_
+  open CommRing Residues using (add as _+ᴿ_, mul as _*ᴿ_, neg, 𝟘, 𝟙)
 
-  pub residue-add : (x y : ℕ) → residue (x +ℕ y) ≡ residue x + residue y
+  pub residue-add : (x y : ℕ) → residue (x + y) ≡ residue x +ᴿ residue y
   unfolding Residues residue
   residue-add x y = residue-path (simp modulo)
 
-  pub residue-mul : (x y : ℕ) → residue (x *ℕ y) ≡ residue x * residue y
+  pub residue-mul : (x y : ℕ) → residue (x * y) ≡ residue x *ᴿ residue y
   unfolding Residues residue
   residue-mul x y = residue-path (simp modulo)
 
@@ -95,8 +94,8 @@ module _ (n : ℕ) where
   residue-one = refl
 
   -- the class of k + 1
-  pub residue-suc : (k : ℕ) → residue (suc k) ≡ 𝟙 + residue k
-  residue-suc k = ap residue (let e : suc k ≡ 1 +ℕ k = omega arith in e) ∙ residue-add 1 k ∙ ap (λ c. c + residue k) residue-one
+  pub residue-suc : (k : ℕ) → residue (suc k) ≡ 𝟙 +ᴿ residue k
+  residue-suc k = ap residue (let e : suc k ≡ 1 + k = omega arith in e) ∙ residue-add 1 k ∙ ap (λ c. c +ᴿ residue k) residue-one
 
   -- every class is that of its number
   pub residue-value : (a : ℤ/ n) → residue (a .value) ≡ a
@@ -123,7 +122,7 @@ module _ (n : ℕ) where
     pub residue-neg : (x : ℕ) → x ≤ n → residue (n - x) ≡ neg (residue x)
     residue-neg x l =
         neg-unique Residues
-        (sym (residue-add x (n - x)) ∙ ap residue (let e : x +ℕ (n - x) ≡ n = omega arith in e) ∙ residue-self)
+        (sym (residue-add x (n - x)) ∙ ap residue (let e : x + (n - x) ≡ n = omega arith in e) ∙ residue-self)
 
     -- numbers of one class leave the same remainder
     pub same-remainder : (x y : ℕ) → residue x ≡ residue y → x % n ≡ y % n
@@ -131,3 +130,10 @@ module _ (n : ℕ) where
 
     pub zero-remainder : (x : ℕ) → residue x ≡ 𝟘 → x % n ≡ 0
     zero-remainder x e = same-remainder x 0 (e ∙ sym residue-zero) ∙ zero-mod n
+
+    -- inverses, as numbers and as classes
+    pub residue-inverse : (x y : ℕ) → x * y % n ≡ 1 → residue y *ᴿ residue x ≡ 𝟙
+    residue-inverse x y e = rw (← residue-mul y x, mul-comm y x, ← residue-mod (x * y), e, residue-one)
+
+    pub inverse-remainder : 1 < n → (x : ℕ) (b : ℤ/ n) → residue x *ᴿ b ≡ 𝟙 → x * b .value % n ≡ 1
+    inverse-remainder large x b e = same-remainder (x * b .value) 1 (rw (residue-mul, residue-value, e, residue-one)) ∙ mod-eq-of-lt large

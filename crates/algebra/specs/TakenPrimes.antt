@@ -6,10 +6,10 @@ use Prim.Native.Nat.{ℕ, _≤_, _<_, _*_}
 use native.Mathlib.Nat.{mul-le-mul}
 use native.Mathlib.Omega.{arith}
 use lib.Dec.{T, leb, ltb, leb→le, ltb→lt}
-use Rattle.specification.specs.Limits.{primes, taken}
-use Rattle.specification.specs.Lists.{all}
+use Rattle.specification.specs.Limits.{primes, taken, _²}
+use Rattle.specification.specs.Lists.{allPass}
 use Rattle.algebra.specs.Fields.{Prime, taken-prime, prime-pos}
-use Rattle.algebra.specs.ListLaws.{member-passes}
+use Rattle.lists.specs.AllAny.{member-passes}
 
 module _ {p : ℕ} (t : taken p ≡ true) where
   pub is-prime : Prime p
@@ -20,13 +20,13 @@ module _ {p : ℕ} (t : taken p ≡ true) where
 
   -- one computed test over the list of primes
   pub fits-byte : p < 256
-  unfolding taken primes all
+  unfolding taken primes allPass
   fits-byte = ltb→lt p 256 (member-passes (λ q. ltb q 256) p primes (subst T (sym t) tt) tt)
 
-pub square-fits-byte : (p : ℕ) → taken p ≡ true → p * p ≤ 256
-unfolding taken primes all
-square-fits-byte p t = leb→le (p * p) 256 (member-passes (λ q. leb (q * q) 256) p primes (subst T (sym t) tt) tt)
+pub square-fits-byte : (p : ℕ) → taken p ≡ true → p ² ≤ 256
+unfolding taken primes allPass
+square-fits-byte p t = leb→le (p ²) 256 (member-passes (λ q. leb (q * q) 256) p primes (subst T (sym t) tt) tt)
 
 -- of every prime that fits a byte
-pub square-small : (p : ℕ) → taken p ≡ true → p * p ≤ 65025
+pub square-small : (p : ℕ) → taken p ≡ true → p ² ≤ 65025
 square-small p t = mul-le-mul {n₂ = 255} {m₂ = 255} (omega (arith, fits-byte t)) (omega (arith, fits-byte t))

@@ -1,3 +1,1 @@
-pub mod Views
-pub mod Table
-pub mod HeldArrays
+pub mod AsSheet

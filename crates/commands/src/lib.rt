@@ -1,17 +1,15 @@
-// The table of commands for the crates that read and write them: how many operands a command has, which code a coefficient has, what a degree means.
+// The table of commands for the crates that read and write them: how many operands a command has, which code a coefficient has.
 // `Sheet` is what a sheet's commands say; the readers give it and the writers take it.
 ghost use mathlib.Core.Path.{_≡_};
-ghost use Prim.Native.Nat.{_≤_};
-ghost use lib.ListN.{set};
 ghost use Rattle.specification.specs.Commands.{operandCount};
 ghost use Rattle.specification.specs.Coefficients.{coefficientCode};
-ghost use Rattle.commands.specs.HeldArrays.{zeros};
+use arrays::Coefs;
 
 // A prime, and a monic polynomial modulo its square.
 pub struct Sheet {
     pub prime: u8,
     pub degree: usize,
-    pub coefs: [u16; 33],
+    pub coefs: Coefs,
 }
 
 // How many operands a command has; a byte that is no command has none.
@@ -38,14 +36,4 @@ pub fn coefficient_code(prime: u8) -> u8
     ensures { λ r. ⌜ r ≡ coefficientCode prime ⌝ }
 {
     COEFFICIENT
-}
-
-// What a degree stands for: "leading coefficient 1, the rest 0".
-pub fn monomial(degree: usize) -> [u16; 33]
-    requires { ⌜ degree ≤ 32 ⌝ }
-    ensures { λ r. ⌜ r ≡ set zeros degree 1 ⌝ }
-{
-    let mut coefs = [0u16; 33];
-    coefs[degree] = 1;
-    coefs
 }

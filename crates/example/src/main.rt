@@ -17,7 +17,7 @@ fn linear(c: u16) -> Poly {
 fn print(title: &[u8], a: Poly) {
     io::write_all(STDOUT_FILENO, title);
     let coefs = a.coefs;
-    let terms = modular::size(coefs);
+    let terms = arrays::size(coefs);
     let mut i: usize = 0;
     while i < terms {
         io::write_all(STDOUT_FILENO, b" ");

@@ -27,8 +27,8 @@ use Rattle.algebra.specs.Divisibility.{
 }
 use Rattle.algebra.specs.Homomorphisms.{keeps-divides}
 use Rattle.algebra.specs.Extension.{Extension}
-use Rattle.factorisation.specs.Members.{_∈_, All, all-cons}
-use Rattle.factorisation.specs.Sums.{total-nil, total-cons-zero, total-cons-one}
+use Rattle.lists.specs.Members.{_∈_, All, all-cons}
+use Rattle.lists.specs.Sums.{total-nil, total-cons-zero, total-cons-one}
 use Rattle.factorisation.specs.PrimeElements.{exponent, divisor-of-power}
 use Rattle.factorisation.specs.ExtensionLaws.{bar-one, bar-mul, coprime-lift, coprime-bar-product}
 use Rattle.factorisation.specs.Classes.{Cases, class-cases}
@@ -36,14 +36,14 @@ use Rattle.factorisation.specs.LongestLists.{Part, Apart, LongestList, P
 use Rattle.factorisation.specs.Monics.{Monics, monic-pow, monic-product}
 
 module _ {A B : Type 0} {𝓐 : CommRing A} {𝓑 : CommRing B} {bar : A → B} (E : Extension 𝓐 𝓑 bar) where
-  infixl 70 _*_
-  open CommRing 𝓐 using (mul as _*_, 𝟙)
+  infixl 70 _*ᴿ_
+  open CommRing 𝓐 using (mul as _*ᴿ_, 𝟙)
 
   -- L in two lists, by the class of q
   pub record Block (q : Part E) (L : List A) : Type 0 where
     pub inside : List A
     pub outside : List A
-    pub law : product 𝓐 inside * product 𝓐 outside ≡ product 𝓐 L
+    pub law : product 𝓐 inside *ᴿ product 𝓐 outside ≡ product 𝓐 L
     pub count : length inside ≡ members-in E q L
     pub members : All (λ x. x ∈ L × (within E x q ≡ 1)) inside
     pub coprime : Coprime 𝓑 (bar (q .g)) (bar (product 𝓐 outside))
@@ -91,7 +91,7 @@ module _ {A B : Type 0} {𝓐 : CommRing A} {𝓑 : CommRing B} {bar : A → B} 
         c : Cofactor E q Q
         c = cofactor E apart i
 
-        both : product 𝓐 (b .inside) * product 𝓐 (b .outside) ≡ q .P * c .C
+        both : product 𝓐 (b .inside) *ᴿ product 𝓐 (b .outside) ≡ q .P *ᴿ c .C
         both = b .law ∙ l .list .factors ∙ sym (c .law)
 
         C-inside : Coprime 𝓑 (bar (c .C)) (bar (product 𝓐 (b .inside)))

@@ -10,7 +10,7 @@ use Rattle.algebra.specs.Identities.{con, _⊕_, _⊖_, _⊗_, ⊝_, _≈_, sol
 use Rattle.algebra.specs.Divisibility.{Coprime, pow, pow-zero, pow-one, pow-suc, product, product-nil, product-cons, coprime-one, coprime-mul}
 use Rattle.algebra.specs.Homomorphisms.{keeps-zero, keeps-neg, keeps-pow}
 use Rattle.algebra.specs.Extension.{Extension}
-use Rattle.factorisation.specs.Members.{All, all-tail}
+use Rattle.lists.specs.Members.{All, all-tail}
 use Rattle.factorisation.specs.Kernel.{bar-sub, kernel-sub, kernel-multiple, bar-add-kernel}
 
 -- n·1
@@ -28,22 +28,22 @@ module _ {R : Type 0} (𝓡 : CommRing R) where
   number-suc n = refl
 
 module _ {A B : Type 0} {𝓐 : CommRing A} {𝓑 : CommRing B} {bar : A → B} (E : Extension 𝓐 𝓑 bar) where
-  infixl 60 _+_ _∔_
-  infixl 70 _*_ _∗_
-  open CommRing 𝓐 using (add as _+_, mul as _*_, neg, 𝟘, 𝟙)
+  infixl 60 _+ᴿ_ _∔_
+  infixl 70 _*ᴿ_ _∗_
+  open CommRing 𝓐 using (add as _+ᴿ_, mul as _*ᴿ_, neg, 𝟘, 𝟙)
   open CommRing 𝓑 using (add as _∔_, mul as _∗_, 𝟘 as 𝟎, 𝟙 as 𝟏)
   open Extension E using (π)
 
   -- ---- bars
 
-  pub bar-add : (a b : A) → bar (a + b) ≡ bar a ∔ bar b
-  bar-add = E .hom .keeps-add
+  pub bar-add : (a b : A) → bar (a +ᴿ b) ≡ bar a ∔ bar b
+  bar-add = E .hom .keepsAdd
 
-  pub bar-mul : (a b : A) → bar (a * b) ≡ bar a ∗ bar b
-  bar-mul = E .hom .keeps-mul
+  pub bar-mul : (a b : A) → bar (a *ᴿ b) ≡ bar a ∗ bar b
+  bar-mul = E .hom .keepsMul
 
   pub bar-one : bar 𝟙 ≡ 𝟏
-  bar-one = E .hom .keeps-one
+  bar-one = E .hom .keepsOne
 
   pub bar-neg : (a : A) → bar (neg a) ≡ 𝓑 .neg (bar a)
   bar-neg = keeps-neg (E .hom)
@@ -51,43 +51,43 @@ module _ {A B : Type 0} {𝓐 : CommRing A} {𝓑 : CommRing B} {bar : A → B} 
   pub bar-pow : (a : A) (n : ℕ) → bar (pow 𝓐 a n) ≡ pow 𝓑 (bar a) n
   bar-pow = keeps-pow (E .hom)
 
-  pub bar-mul-pow : (a b : A) (n : ℕ) → bar (a * pow 𝓐 b n) ≡ bar a ∗ pow 𝓑 (bar b) n
+  pub bar-mul-pow : (a b : A) (n : ℕ) → bar (a *ᴿ pow 𝓐 b n) ≡ bar a ∗ pow 𝓑 (bar b) n
   bar-mul-pow a b n = bar-mul a (pow 𝓐 b n) ∙ ap (λ c. bar a ∗ c) (bar-pow b n)
 
   pub bar-lift : (b : B) → bar (E .lift b) ≡ b
-  bar-lift = E .bar-lift
+  bar-lift = E .barLift
 
   pub bar-number : (n : ℕ) → bar (number 𝓐 n) ≡ number 𝓑 n
   bar-number zero = rw (number-zero 𝓐, number-zero 𝓑) (keeps-zero (E .hom))
   bar-number (suc n) = rw (number-suc 𝓐 n, number-suc 𝓑 n, bar-add, bar-one, bar-number n)
 
-  pub bar-π-mul : (a : A) → bar (π * a) ≡ 𝟎
-  bar-π-mul a = kernel-multiple E a (E .bar-π)
+  pub bar-π-mul : (a : A) → bar (π *ᴿ a) ≡ 𝟎
+  bar-π-mul a = kernel-multiple E a (E .barπ)
 
-  pub bar-add-π : (a b : A) → bar (a + π * b) ≡ bar a
+  pub bar-add-π : (a b : A) → bar (a +ᴿ π *ᴿ b) ≡ bar a
   bar-add-π a b = bar-add-kernel E a (bar-π-mul b)
 
   -- the bar of g^n + π·h
-  pub bar-pow-π : (g h : A) (n : ℕ) → bar (pow 𝓐 g n + π * h) ≡ pow 𝓑 (bar g) n
+  pub bar-pow-π : (g h : A) (n : ℕ) → bar (pow 𝓐 g n +ᴿ π *ᴿ h) ≡ pow 𝓑 (bar g) n
   bar-pow-π g h n = bar-add-π (pow 𝓐 g n) h ∙ bar-pow g n
 
   -- ---- multiples of π
 
   -- equal bars: the difference is a multiple of π
-  pub difference : {a b : A} → bar a ≡ bar b → (c : A) × (a ≡ b + π * c)
+  pub difference : {a b : A} → bar a ≡ bar b → (c : A) × (a ≡ b +ᴿ π *ᴿ c)
   difference {a} {b} e = (
-    E .part (a + neg b),
-    linear1 𝓐 𝟙 (E .kernel (a + neg b) (kernel-sub E e))
-        (solve 𝓐 4 (λ a b π c. a ⊖ (b ⊕ π ⊗ c) ≈ con 1 ⊗ (a ⊖ b ⊖ π ⊗ c)) tt a b π (E .part (a + neg b))),
+    E .part (a +ᴿ neg b),
+    linear1 𝓐 𝟙 (E .kernel (a +ᴿ neg b) (kernel-sub E e))
+        (solve 𝓐 4 (λ a b π c. a ⊖ (b ⊕ π ⊗ c) ≈ con 1 ⊗ (a ⊖ b ⊖ π ⊗ c)) tt a b π (E .part (a +ᴿ neg b))),
   )
 
-  pub π-injective : {a b : A} → π * a ≡ π * b → bar a ≡ bar b
+  pub π-injective : {a b : A} → π *ᴿ a ≡ π *ᴿ b → bar a ≡ bar b
   π-injective {a} {b} e =
       eq-of-sub 𝓑
       (sym (bar-sub E a b)
-      ∙ E .kill (a + neg b) (linear1 𝓐 𝟙 e (solve 𝓐 3 (λ a b π. π ⊗ (a ⊖ b) ⊖ con 0 ≈ con 1 ⊗ (π ⊗ a ⊖ π ⊗ b)) tt a b π)))
+      ∙ E .kill (a +ᴿ neg b) (linear1 𝓐 𝟙 e (solve 𝓐 3 (λ a b π. π ⊗ (a ⊖ b) ⊖ con 0 ≈ con 1 ⊗ (π ⊗ a ⊖ π ⊗ b)) tt a b π)))
 
-  pub π-equal : {a b : A} → bar a ≡ bar b → π * a ≡ π * b
+  pub π-equal : {a b : A} → bar a ≡ bar b → π *ᴿ a ≡ π *ᴿ b
   π-equal {a} {b} e =
       let (c, h) = difference e in
       linear2 𝓐 π c h (E .square) (solve 𝓐 4 (λ a b π c. π ⊗ a ⊖ π ⊗ b ≈ π ⊗ (a ⊖ (b ⊕ π ⊗ c)) ⊕ c ⊗ (π ⊗ π ⊖ con 0)) tt a b π c)
@@ -97,15 +97,15 @@ module _ {A B : Type 0} {𝓐 : CommRing A} {𝓑 : CommRing B} {bar : A → B} 
   pub coprime-lift : {a b : A} → Coprime 𝓑 (bar a) (bar b) → Coprime 𝓐 a b
   coprime-lift {a} {b} c = make (E .lift (c .u)) (E .lift (c .v)) (difference one)
     where
-      one : bar (E .lift (c .u) * a + E .lift (c .v) * b) ≡ bar 𝟙
+      one : bar (E .lift (c .u) *ᴿ a +ᴿ E .lift (c .v) *ᴿ b) ≡ bar 𝟙
       one = simp (bar-add, bar-mul, bar-lift) (c .law ∙ sym bar-one)
 
       -- multiply 1 + π·y by 1 − π·y
-      make : (u v : A) → (y : A) × (u * a + v * b ≡ 𝟙 + π * y) → Coprime 𝓐 a b
+      make : (u v : A) → (y : A) × (u *ᴿ a +ᴿ v *ᴿ b ≡ 𝟙 +ᴿ π *ᴿ y) → Coprime 𝓐 a b
       make u v (y, h) = record {
-        u = (𝟙 + neg (π * y)) * u;
-        v = (𝟙 + neg (π * y)) * v;
-        law = linear2 𝓐 (𝟙 + neg (π * y)) (neg (y * y)) h (E .square)
+        u = (𝟙 +ᴿ neg (π *ᴿ y)) *ᴿ u;
+        v = (𝟙 +ᴿ neg (π *ᴿ y)) *ᴿ v;
+        law = linear2 𝓐 (𝟙 +ᴿ neg (π *ᴿ y)) (neg (y *ᴿ y)) h (E .square)
             (solve 𝓐 6
             (λ a b u v π y.
             (con 1 ⊖ π ⊗ y) ⊗ u ⊗ a ⊕ (con 1 ⊖ π ⊗ y) ⊗ v ⊗ b ⊖ con 1
@@ -122,14 +122,14 @@ module _ {A B : Type 0} {𝓐 : CommRing A} {𝓑 : CommRing B} {bar : A → B} 
   -- ---- the binomial theorem
 
   -- (x + π·t)^(k+1) = x^(k+1) + π·(k+1)·x^k·t
-  pub binomial : (k : ℕ) (x t : A) → pow 𝓐 (x + π * t) (suc k) ≡ pow 𝓐 x (suc k) + π * (number 𝓐 (suc k) * (pow 𝓐 x k * t))
+  pub binomial : (k : ℕ) (x t : A) → pow 𝓐 (x +ᴿ π *ᴿ t) (suc k) ≡ pow 𝓐 x (suc k) +ᴿ π *ᴿ (number 𝓐 (suc k) *ᴿ (pow 𝓐 x k *ᴿ t))
   binomial zero x t =
-      rw (pow-one 𝓐 x, pow-one 𝓐 (x + π * t), pow-zero 𝓐 x, number-suc 𝓐 0, number-zero 𝓐)
+      rw (pow-one 𝓐 x, pow-one 𝓐 (x +ᴿ π *ᴿ t), pow-zero 𝓐 x, number-suc 𝓐 0, number-zero 𝓐)
       (solve 𝓐 3 (λ x π t. x ⊕ π ⊗ t ≈ x ⊕ π ⊗ ((con 1 ⊕ con 0) ⊗ (con 1 ⊗ t))) tt x π t)
   binomial (suc k) x t =
-      pow-suc 𝓐 (x + π * t) (suc k) ∙ ap (λ y. (x + π * t) * y) (binomial k x t)
+      pow-suc 𝓐 (x +ᴿ π *ᴿ t) (suc k) ∙ ap (λ y. (x +ᴿ π *ᴿ t) *ᴿ y) (binomial k x t)
       ∙ rw (pow-suc 𝓐 x (suc k), pow-suc 𝓐 x k, number-suc 𝓐 (suc k))
-      (linear1 𝓐 (t * number 𝓐 (suc k) * pow 𝓐 x k * t) (E .square)
+      (linear1 𝓐 (t *ᴿ number 𝓐 (suc k) *ᴿ pow 𝓐 x k *ᴿ t) (E .square)
       (solve 𝓐 5
       (λ x π t n y.
       (x ⊕ π ⊗ t) ⊗ (x ⊗ y ⊕ π ⊗ (n ⊗ (y ⊗ t))) ⊖ (x ⊗ (x ⊗ y) ⊕ π ⊗ ((con 1 ⊕ n) ⊗ (x ⊗ y ⊗ t)))

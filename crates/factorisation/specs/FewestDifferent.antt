@@ -1,20 +1,21 @@
 -- The number of different members of a longest list.
 -- Proves that a part whose longest lists should have two different members is no s-th power, and so that a longest list has at least
 -- Σ z different members (E). Assumes nothing.
-use mathlib.Core.Path.{_≡_, sym, _∙_, ap, ap₂}
+use mathlib.Core.Path.{_≡_, sym, _∙_, ap, ap₂, _≡⟨_⟩_, _∎}
 use mathlib.Core.Logic.{_⊎_, inl, inr, ⊎-elim}
 use mathlib.Core.List.{List}
 use lib.ListN.{length}
-use Prim.Native.Nat.{ℕ, suc, _≤_, _<_, _-_, _*_ as _*ℕ_}
+use Prim.Native.Nat.{ℕ, suc, _≤_, _<_, _-_, _*_}
 use native.Mathlib.Omega.{arith}
 use native.Mathlib.Decide.{decLe}
 use native.Mathlib.Nat.{eq-or-lt-of-le, mul-le-mul-left}
 use Rattle.algebra.specs.Ring.{CommRing, zero-mul, add-left-cancel}
 use Rattle.algebra.specs.Divisibility.{_∣_ as Divides, pow, pow-one, pow-mul, pow-divides, divides-mul, divides-mul-right}
 use Rattle.algebra.specs.Extension.{Extension}
-use Rattle.factorisation.specs.Members.{_∈_, All, product-equal}
-use Rattle.factorisation.specs.Sums.{total, total-one, total-mono, total-swap, member-le, two-le, positive-member}
-use Rattle.factorisation.specs.Distinct.{distinct, distinct-keeps, distinct-only}
+use Rattle.lists.specs.Members.{_∈_, All}
+use Rattle.factorisation.specs.MemberProducts.{product-equal}
+use Rattle.lists.specs.Sums.{total, total-one, total-mono, total-swap, member-le, two-le, positive-member}
+use Rattle.lists.specs.Distinct.{distinct, distinct-keeps, distinct-only}
 use Rattle.factorisation.specs.PrimeElements.{pow-injective}
 use Rattle.factorisation.specs.ExtensionLaws.{number, bar-mul, bar-number, bar-pow, difference, π-injective, binomial}
 use Rattle.factorisation.specs.LongestLists.{Part, IsSplit, Apart, LongestList, Proper, within, bar-P, class-exactly, one-class}
@@ -22,9 +23,9 @@ use Rattle.factorisation.specs.Monics.{Monics, MonicMap}
 use Rattle.factorisation.specs.Blocks.{Block, block, block-product, multiplicity, divisor-bar, divisor-pos}
 
 module _ {A B : Type 0} {𝓐 : CommRing A} {𝓑 : CommRing B} {bar : A → B} (E : Extension 𝓐 𝓑 bar) where
-  infixl 60 _+_
-  infixl 70 _*_ _∗_
-  open CommRing 𝓐 using (add as _+_, mul as _*_)
+  infixl 60 _+ᴿ_
+  infixl 70 _*ᴿ_ _∗_
+  open CommRing 𝓐 using (add as _+ᴿ_, mul as _*ᴿ_)
   open CommRing 𝓑 using (mul as _∗_)
   open Extension E using (π)
 
@@ -51,39 +52,50 @@ module _ {A B : Type 0} {𝓐 : CommRing A} {𝓑 : CommRing B} {bar : A → B} 
     bar-x : bar x ≡ pow 𝓑 (bar g) e
     bar-x = divisor-bar E M q monicG divides monic
 
-    exponents : s *ℕ e ≡ m
-    exponents =
-        pow-injective 𝓑 prime (s *ℕ e) m
-        (pow-mul 𝓑 (bar g) s e ∙ ap (λ b. pow 𝓑 b s) (sym bar-x) ∙ sym (bar-pow E x s) ∙ ap bar power ∙ bar-P E q)
+    exponents : s * e ≡ m
+    exponents = pow-injective 𝓑 prime (s * e) m bars
+      where
+        bars : pow 𝓑 (bar g) (s * e) ≡ pow 𝓑 (bar g) m
+        bars =
+            pow 𝓑 (bar g) (s * e) ≡⟨ pow-mul 𝓑 (bar g) s e ⟩
+            pow 𝓑 (pow 𝓑 (bar g) e) s ≡⟨ ap (λ b. pow 𝓑 b s) (sym bar-x) ⟩
+            pow 𝓑 (bar x) s ≡⟨ sym (bar-pow E x s) ⟩
+            bar (pow 𝓐 x s) ≡⟨ ap bar power ⟩
+            bar (q .P) ≡⟨ bar-P E q ⟩
+            pow 𝓑 (bar g) m ∎
 
     -- x = g^e + π·y, so h has the bar s·G^(e(s−1))·y
-    bar-h : (y : B) × (bar h ≡ number 𝓑 s ∗ (pow 𝓑 (bar g) (k *ℕ e) ∗ y))
+    bar-h : (y : B) × (bar h ≡ number 𝓑 s ∗ (pow 𝓑 (bar g) (k * e) ∗ y))
     bar-h = let (y, d) = difference E (bar-x ∙ sym (bar-pow E g e)) in (bar y, π-injective E (add-left-cancel 𝓐 (same y d)) ∙ bar-term y)
       where
-        bar-term : (y : A) → bar (number 𝓐 s * (pow 𝓐 (pow 𝓐 g e) k * y)) ≡ number 𝓑 s ∗ (pow 𝓑 (bar g) (k *ℕ e) ∗ bar y)
-        bar-term y = bar-mul E (number 𝓐 s) (pow 𝓐 (pow 𝓐 g e) k * y) ∙ ap₂ _∗_ (bar-number E s) (bar-mul E (pow 𝓐 (pow 𝓐 g e) k) y
+        bar-term : (y : A) → bar (number 𝓐 s *ᴿ (pow 𝓐 (pow 𝓐 g e) k *ᴿ y)) ≡ number 𝓑 s ∗ (pow 𝓑 (bar g) (k * e) ∗ bar y)
+        bar-term y = bar-mul E (number 𝓐 s) (pow 𝓐 (pow 𝓐 g e) k *ᴿ y) ∙ ap₂ _∗_ (bar-number E s) (bar-mul E (pow 𝓐 (pow 𝓐 g e) k) y
             ∙ ap (λ b. b ∗ bar y) (bar-pow E (pow 𝓐 g e) k ∙ ap (λ b. pow 𝓑 b k) (bar-pow E g e) ∙ sym (pow-mul 𝓑 (bar g) k e)))
 
         powers : pow 𝓐 (pow 𝓐 g e) (suc k) ≡ pow 𝓐 g m
-        powers = sym (pow-mul 𝓐 g (suc k) e) ∙ ap (pow 𝓐 g) (ap (λ n. n *ℕ e) (sym sk) ∙ exponents)
+        powers = sym (pow-mul 𝓐 g (suc k) e) ∙ ap (pow 𝓐 g) (ap (λ n. n * e) (sym sk) ∙ exponents)
 
-        same : (y : A) → x ≡ pow 𝓐 g e + π * y → pow 𝓐 g m + π * h ≡ pow 𝓐 g m + π * (number 𝓐 s * (pow 𝓐 (pow 𝓐 g e) k * y))
+        same : (y : A) → x ≡ pow 𝓐 g e +ᴿ π *ᴿ y → pow 𝓐 g m +ᴿ π *ᴿ h ≡ pow 𝓐 g m +ᴿ π *ᴿ (number 𝓐 s *ᴿ (pow 𝓐 (pow 𝓐 g e) k *ᴿ y))
         same y d =
-            sym (q .shape) ∙ sym power ∙ ap₂ (pow 𝓐) d sk ∙ binomial E k (pow 𝓐 g e) y
-            ∙ ap₂ (λ u n. u + π * (number 𝓐 n * (pow 𝓐 (pow 𝓐 g e) k * y))) powers (sym sk)
+            pow 𝓐 g m +ᴿ π *ᴿ h ≡⟨ sym (q .shape) ⟩
+            q .P ≡⟨ sym power ⟩
+            pow 𝓐 x s ≡⟨ ap₂ (pow 𝓐) d sk ⟩
+            pow 𝓐 (pow 𝓐 g e +ᴿ π *ᴿ y) (suc k) ≡⟨ binomial E k (pow 𝓐 g e) y ⟩
+            pow 𝓐 (pow 𝓐 g e) (suc k) +ᴿ π *ᴿ (number 𝓐 (suc k) *ᴿ (pow 𝓐 (pow 𝓐 g e) k *ᴿ y)) ≡⟨ (rw (powers, ← sk)) ⟩
+            pow 𝓐 g m +ᴿ π *ᴿ (number 𝓐 s *ᴿ (pow 𝓐 (pow 𝓐 g e) k *ᴿ y)) ∎
 
     -- e = 1: then s = m, and s·1 = 0 in B, so the bar of h is 0
     once : 1 ≡ e → ⊥
     once l = split .exact (𝓑 .𝟘, zero-mul 𝓑 (pow 𝓑 (bar g) s) ∙ sym (bar-h .1 ∙ ap (λ n. n ∗ rest) none ∙ zero-mul 𝓑 rest))
       where
         equal : s ≡ m
-        equal = omega (arith, exponents, ap (λ n. s *ℕ n) l)
+        equal = omega (arith, exponents, ap (λ n. s * n) l)
 
         none : number 𝓑 s ≡ 𝓑 .𝟘
         none = ap (number 𝓑) equal ∙ split .null equal
 
         rest : B
-        rest = pow 𝓑 (bar g) (k *ℕ e) ∗ bar-h .0
+        rest = pow 𝓑 (bar g) (k * e) ∗ bar-h .0
 
     -- e ≥ 2: then e(s−1) ≥ s
     more : 1 < e → ⊥
@@ -117,7 +129,7 @@ module _ {A B : Type 0} {𝓐 : CommRing A} {𝓑 : CommRing B} {bar : A → B} 
             two : Dec (2 ≤ different q) → q .z ≤ different q
             two (yes t) = omega arith
             two (no n) =
-                absurd (no-power (M .below) q split (M .bar-monic ((monicQ q i) .0)) x (M .bar-monic (monicL x j)) (l .list .proper x j)
+                absurd (no-power (M .below) q split (M .barMonic ((monicQ q i) .0)) x (M .barMonic (monicL x j)) (l .list .proper x j)
                 (ap (pow 𝓐 x) (sym (class-exactly E apart l q i) ∙ sym (b .count)) ∙ sym (product-equal 𝓐 (b .inside) same)
                 ∙ block-product E (M .above) apart l monicL q i ((monicQ q i) .1) b))
               where

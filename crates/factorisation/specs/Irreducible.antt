@@ -3,11 +3,11 @@
 -- is a prime element, and that two irreducible polynomials are equal or coprime. Assumes nothing.
 use mathlib.Core.Path.{_≡_, sym, _∙_, ap}
 use mathlib.Core.Logic.{_⊎_, inl, inr, _≢_, ⊎-elim}
-use Prim.Native.Nat.{ℕ, zero, suc, _≤_, _+_ as _+ℕ_}
+use Prim.Native.Nat.{ℕ, zero, suc, _≤_, _+_}
 use native.Mathlib.Omega.{arith}
 use Rattle.algebra.specs.Ring.{CommRing}
 use Rattle.algebra.specs.Divisibility.{_∣_, Coprime}
-use Rattle.algebra.specs.Polynomials.{Poly, PolyRing, _·_, 𝟎, 𝟏, coef-zero}
+use Rattle.algebra.specs.PolynomialRing.{Poly, PolyRing, _·_, 𝟎, 𝟏, coef-zero}
 use Rattle.algebra.specs.Degree.{Monic, coef-top, monic-one, monic-zero, monic-cancel}
 use Rattle.algebra.specs.Leading.{Leading, leading, monic-cofactor}
 use Rattle.algebra.specs.Fields.{Field, field-cancel}
@@ -33,22 +33,22 @@ module _ {R : Type 0} {𝓡 : CommRing R} (field : Field 𝓡) where
         where
           top : 𝓡 .mul (a .coef (s .degree)) (b .coef (t .degree)) ≡ 𝓡 .𝟘
           top =
-              sym (coef-top (s .below) (t .below)) ∙ ap (λ c. c .coef (s .degree +ℕ t .degree)) e ∙ coef-zero 𝓡 (s .degree +ℕ t .degree)
+              sym (coef-top (s .below) (t .below)) ∙ ap (λ c. c .coef (s .degree + t .degree)) e ∙ coef-zero 𝓡 (s .degree + t .degree)
 
   monic-divisor : {k : ℕ} {g G : Poly 𝓡} → Irreducible G → Monic k g → _∣_ (PolyRing 𝓡) g G → (g ≡ 𝟏) ⊎ (g ≡ G)
   monic-divisor {k = zero} I m d = inl (monic-zero m)
-  monic-divisor {k = suc k} {g} {G} I m (u, e) = go (monic-cofactor (field .decide) (field .one-ne-zero) u g m (rw e (I .monic)))
+  monic-divisor {k = suc k} {g} {G} I m (u, e) = go (monic-cofactor (field .decide) (field .oneNeZero) u g m (rw e (I .monic)))
     where
-      go : (j : ℕ) × Monic j u × (j +ℕ suc k ≡ I .degree) → (g ≡ 𝟏) ⊎ (g ≡ G)
+      go : (j : ℕ) × Monic j u × (j + suc k ≡ I .degree) → (g ≡ 𝟏) ⊎ (g ≡ G)
       go (zero, n, l) = inr (sym ((PolyRing 𝓡) .*-one g) ∙ ap (λ w. w · g) (sym (monic-zero n)) ∙ e)
       go (suc j, n, l) = absurd (I .noProduct n m (omega arith) (omega arith) e)
 
   -- the monic common divisor of G and a is 𝟏 or G
   pub irreducible-prime : {G : Poly 𝓡} → Irreducible G → PrimeElement (PolyRing 𝓡) G
   irreducible-prime {G} I = record {
-    test = λ a. test a (bezout-monic field G a (inl (monic-nonzero (field .one-ne-zero) (I .monic))));
+    test = λ a. test a (bezout-monic field G a (inl (monic-nonzero (field .oneNeZero) (I .monic))));
     cancel = monic-cancel (I .monic);
-    nonunit = λ d. let p = I .positive in omega (arith, divisor-degree (field .one-ne-zero) (I .monic) monic-one d);
+    nonunit = λ d. let p = I .positive in omega (arith, divisor-degree (field .oneNeZero) (I .monic) monic-one d);
   }
     where
       test : (a : Poly 𝓡) → MonicBezout field G a → (_∣_ (PolyRing 𝓡) G a) ⊎ Coprime (PolyRing 𝓡) G a

@@ -10,7 +10,7 @@ use Rattle.algebra.specs.Ring.{CommRing, one-mul}
 use Rattle.algebra.specs.Identities.{_⊕_, _⊖_, _≈_, solve}
 use Rattle.algebra.specs.Divisibility.{_∣_, divides-refl, divides-trans}
 use Rattle.algebra.specs.Residues.{residue, Residues, residue-value, value-below}
-use Rattle.algebra.specs.Polynomials.{Poly, PolyRing, _+_, _·_, -_, 𝟎, x, constant, tail, head-tail, constant-one}
+use Rattle.algebra.specs.PolynomialRing.{Poly, PolyRing, _+ᴿ_, _·_, -ᴿ_, 𝟎, x, constant, tail, head-tail, constant-one}
 use Rattle.algebra.specs.Monomials.{x^}
 use Rattle.algebra.specs.Degree.{
   Below,
@@ -31,6 +31,7 @@ use Rattle.algebra.specs.Leading.{divides?}
 use Rattle.algebra.specs.Fields.{Prime, prime-pos, residue-field, residue-discrete}
 use Rattle.factorisation.specs.MonicDivisors.{monic-degree}
 use Rattle.factorisation.specs.Irreducible.{Irreducible}
+use Rattle.algebra.specs.CoefficientLists.{ℤ[x]/, 𝓩[x]/}
 
 -- a number below n with a decided property
 number-below? : (n : ℕ) (Q : ℕ → Type 0) → ((k : ℕ) → Dec (Q k)) → Dec ((k : ℕ) × (k < n) × Q k)
@@ -59,65 +60,65 @@ module _ {R : Type 0} {𝓡 : CommRing R} where
 
 module _ {p : ℕ} (P : Prime p) where
   -- a polynomial of degree below i with a decided property
-  poly-below? : (i : ℕ) (Q : Poly (Residues p) → Type 0) → ((a : Poly (Residues p)) → Below i a → Dec (Q a))
-      → Dec ((a : Poly (Residues p)) × Below i a × Q a)
+  poly-below? : (i : ℕ) (Q : ℤ[x]/ p → Type 0) → ((a : ℤ[x]/ p) → Below i a → Dec (Q a))
+      → Dec ((a : ℤ[x]/ p) × Below i a × Q a)
   poly-below? zero Q test = go (test 𝟎 (below-𝟎 0))
     where
-      go : Dec (Q 𝟎) → Dec ((a : Poly (Residues p)) × Below 0 a × Q a)
+      go : Dec (Q 𝟎) → Dec ((a : ℤ[x]/ p) × Below 0 a × Q a)
       go (yes q) = yes (𝟎, below-𝟎 0, q)
       go (no s) = no (λ (a, h, q). s (subst Q (below-zero h) q))
   poly-below? (suc i) Q test =
-      go (number-below? p (λ k. (b : Poly (Residues p)) × Below i b × Q (constant (residue p k) + x · b))
-      (λ k. poly-below? i (λ b. Q (constant (residue p k) + x · b)) (λ b h. test (constant (residue p k) + x · b) (up k b h))))
+      go (number-below? p (λ k. (b : ℤ[x]/ p) × Below i b × Q (constant (residue p k) +ᴿ x · b))
+      (λ k. poly-below? i (λ b. Q (constant (residue p k) +ᴿ x · b)) (λ b h. test (constant (residue p k) +ᴿ x · b) (up k b h))))
     where
-      up : (k : ℕ) (b : Poly (Residues p)) → Below i b → Below (suc i) (constant (residue p k) + x · b)
+      up : (k : ℕ) (b : ℤ[x]/ p) → Below i b → Below (suc i) (constant (residue p k) +ᴿ x · b)
       up k b h = below-add (below-up (omega arith) (below-constant (residue p k))) (below-x-mul h)
 
-      whole : (a : Poly (Residues p)) → a ≡ constant (residue p (a .coef 0 .value)) + x · tail a
-      whole a = head-tail a ∙ ap (λ c. constant c + x · tail a) (sym (residue-value p (a .coef 0)))
+      whole : (a : ℤ[x]/ p) → a ≡ constant (residue p (a .coef 0 .value)) +ᴿ x · tail a
+      whole a = head-tail a ∙ ap (λ c. constant c +ᴿ x · tail a) (sym (residue-value p (a .coef 0)))
 
-      go : Dec ((k : ℕ) × (k < p) × ((b : Poly (Residues p)) × Below i b × Q (constant (residue p k) + x · b)))
-          → Dec ((a : Poly (Residues p)) × Below (suc i) a × Q a)
-      go (yes (k, l, (b, h, q))) = yes (constant (residue p k) + x · b, up k b h, q)
+      go : Dec ((k : ℕ) × (k < p) × ((b : ℤ[x]/ p) × Below i b × Q (constant (residue p k) +ᴿ x · b)))
+          → Dec ((a : ℤ[x]/ p) × Below (suc i) a × Q a)
+      go (yes (k, l, (b, h, q))) = yes (constant (residue p k) +ᴿ x · b, up k b h, q)
       go (no s) =
           no (λ (a, h, q). s (a .coef 0 .value, value-below p (prime-pos P) (a .coef 0), (tail a, below-tail h, subst Q (whole a) q)))
 
-  monic-divisor? : (i : ℕ) (f : Poly (Residues p)) → Dec (MonicDivisor i f)
+  monic-divisor? : (i : ℕ) (f : ℤ[x]/ p) → Dec (MonicDivisor i f)
   monic-divisor? i f =
-      go (poly-below? i (λ r. _∣_ (PolyRing (Residues p)) (x^ i + r) f) (λ r h. divides? (residue-discrete p) (monic-add (monic-pow-x i) h) f))
+      go (poly-below? i (λ r. _∣_ (𝓩[x]/ p) (x^ i +ᴿ r) f) (λ r h. divides? (residue-discrete p) (monic-add (monic-pow-x i) h) f))
     where
-      lower : (a : Poly (Residues p)) → Monic i a → Below i (a + - x^ i)
+      lower : (a : ℤ[x]/ p) → Monic i a → Below i (a +ᴿ -ᴿ x^ i)
       lower a m =
-          rw (m .leading, constant-one (Residues p), one-mul (PolyRing (Residues p)) (x^ i)) at (below-top (monic-pow-x i) a (m .below))
+          rw (m .leading, constant-one (Residues p), one-mul (𝓩[x]/ p) (x^ i)) at (below-top (monic-pow-x i) a (m .below))
 
-      go : Dec ((r : Poly (Residues p)) × Below i r × _∣_ (PolyRing (Residues p)) (x^ i + r) f) → Dec (MonicDivisor i f)
-      go (yes (r, h, d)) = yes (record { divisor = x^ i + r; monic = monic-add (monic-pow-x i) h; divides = d })
-      go (no s) = no (λ t. s (t .divisor + - x^ i, lower (t .divisor) (t .monic), rw (whole (t .divisor)) (t .divides)))
+      go : Dec ((r : ℤ[x]/ p) × Below i r × _∣_ (𝓩[x]/ p) (x^ i +ᴿ r) f) → Dec (MonicDivisor i f)
+      go (yes (r, h, d)) = yes (record { divisor = x^ i +ᴿ r; monic = monic-add (monic-pow-x i) h; divides = d })
+      go (no s) = no (λ t. s (t .divisor +ᴿ -ᴿ x^ i, lower (t .divisor) (t .monic), rw (whole (t .divisor)) (t .divides)))
         where
-          whole : (a : Poly (Residues p)) → x^ i + (a + - x^ i) ≡ a
-          whole a = solve (PolyRing (Residues p)) 2 (λ a y. y ⊕ (a ⊖ y) ≈ a) tt a (x^ i)
+          whole : (a : ℤ[x]/ p) → x^ i +ᴿ (a +ᴿ -ᴿ x^ i) ≡ a
+          whole a = solve (𝓩[x]/ p) 2 (λ a y. y ⊕ (a ⊖ y) ≈ a) tt a (x^ i)
 
   -- no divisor of lower degree
-  undivided-irreducible : {d : ℕ} {f : Poly (Residues p)} → 1 ≤ d → Monic d f → ¬ ((j : ℕ) × (j < d - 1) × MonicDivisor (suc j) f) → Irreducible f
+  undivided-irreducible : {d : ℕ} {f : ℤ[x]/ p} → 1 ≤ d → Monic d f → ¬ ((j : ℕ) × (j < d - 1) × MonicDivisor (suc j) f) → Irreducible f
   undivided-irreducible {d} {f} l m none = record { degree = d; positive = l; monic = m; noProduct = divided }
     where
-      divided : {i e : ℕ} {a b : Poly (Residues p)} → Monic i a → Monic e b → 1 ≤ i → 1 ≤ e → a · b ≡ f → ⊥
+      divided : {i e : ℕ} {a b : ℤ[x]/ p} → Monic i a → Monic e b → 1 ≤ i → 1 ≤ e → a · b ≡ f → ⊥
       divided {i} {e} {a} {b} ma mb la lb h =
-          let s = monic-degree (residue-field p P .one-ne-zero) (rw h at (monic-mul ma mb)) m in
+          let s = monic-degree (residue-field p P .oneNeZero) (rw h at (monic-mul ma mb)) m in
           let z : suc (i - 1) ≡ i = omega arith in
-          none (i - 1, omega arith, record { divisor = a; monic = rw z ma; divides = (b, (PolyRing (Residues p)) .*-comm b a ∙ h) })
+          none (i - 1, omega arith, record { divisor = a; monic = rw z ma; divides = (b, (𝓩[x]/ p) .*-comm b a ∙ h) })
 
-  divisor-from : (n d : ℕ) (f : Poly (Residues p)) → d ≤ n → 1 ≤ d → Monic d f → IrreducibleDivisor f
+  divisor-from : (n d : ℕ) (f : ℤ[x]/ p) → d ≤ n → 1 ≤ d → Monic d f → IrreducibleDivisor f
   divisor-from zero d f k l m = absurd (omega arith)
   divisor-from (suc n) d f k l m =
       go (number-below? (d - 1) (λ j. MonicDivisor (suc j) f) (λ j. monic-divisor? (suc j) f)) (λ e a. divisor-from n e a)
     where
       go : Dec ((j : ℕ) × (j < d - 1) × MonicDivisor (suc j) f)
-          → ((e : ℕ) (a : Poly (Residues p)) → e ≤ n → 1 ≤ e → Monic e a → IrreducibleDivisor a) → IrreducibleDivisor f
+          → ((e : ℕ) (a : ℤ[x]/ p) → e ≤ n → 1 ≤ e → Monic e a → IrreducibleDivisor a) → IrreducibleDivisor f
       go (yes (j, s, t)) rest =
           let z = rest (suc j) (t .divisor) (omega arith) (omega arith) (t .monic) in
-          record { G = z .G; irreducible = z .irreducible; divides = divides-trans (PolyRing (Residues p)) (z .divides) (t .divides) }
-      go (no s) rest = record { G = f; irreducible = undivided-irreducible l m s; divides = divides-refl (PolyRing (Residues p)) f }
+          record { G = z .G; irreducible = z .irreducible; divides = divides-trans (𝓩[x]/ p) (z .divides) (t .divides) }
+      go (no s) rest = record { G = f; irreducible = undivided-irreducible l m s; divides = divides-refl (𝓩[x]/ p) f }
 
-  pub irreducible-divisor : {d : ℕ} {f : Poly (Residues p)} → 1 ≤ d → Monic d f → IrreducibleDivisor f
+  pub irreducible-divisor : {d : ℕ} {f : ℤ[x]/ p} → 1 ≤ d → Monic d f → IrreducibleDivisor f
   irreducible-divisor {d} {f} l m = divisor-from d d f (omega arith) l m

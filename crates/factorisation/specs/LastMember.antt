@@ -4,37 +4,37 @@ use mathlib.Core.Path.{_≡_, refl, sym, _∙_, ap, ap₂}
 use mathlib.Core.List.{List, [], _∷_}
 use mathlib.Core.List.{List·Memᴰ·head as here}
 use lib.ListN.{length}
-use Prim.Native.Nat.{ℕ, suc, _-_, _+_ as _+ℕ_}
+use Prim.Native.Nat.{ℕ, suc, _-_, _+_}
 use native.Mathlib.Omega.{arith}
 use Rattle.algebra.specs.Ring.{CommRing, linear2, linear3}
 use Rattle.algebra.specs.Identities.{con, _⊕_, _⊖_, _⊗_, _≈_, solve}
 use Rattle.algebra.specs.Divisibility.{_∣_, pow, pow-zero, pow-suc, pow-add, product, product-nil, product-cons}
 use Rattle.algebra.specs.Extension.{Extension}
-use Rattle.factorisation.specs.Members.{All, all-tail}
+use Rattle.lists.specs.Members.{All, all-tail}
 use Rattle.factorisation.specs.ExtensionLaws.{bar-one, bar-mul, bar-pow, bar-mul-pow, bar-lift, difference, π-equal}
 use Rattle.factorisation.specs.LongestLists.{Part}
 
 module _ {A B : Type 0} {𝓐 : CommRing A} {𝓑 : CommRing B} {bar : A → B} (E : Extension 𝓐 𝓑 bar) (q : Part E) where
-  infixl 60 _+_
-  infixl 70 _*_
-  open CommRing 𝓐 using (add as _+_, mul as _*_, neg, 𝟘)
+  infixl 60 _+ᴿ_
+  infixl 70 _*ᴿ_
+  open CommRing 𝓐 using (add as _+ᴿ_, mul as _*ᴿ_, neg, 𝟘)
   open Extension E using (π, lift)
   open Part q using (g, m, P, h, s)
 
   -- elements g + π·c multiply to g^k + π·g^(k − 1)·t, where t is the sum of the c; times g, so that k may be 0
   record Multiplied (xs : List A) : Type 0 where
     t : A
-    law : product 𝓐 xs * g ≡ pow 𝓐 g (length xs) * (g + π * t)
+    law : product 𝓐 xs *ᴿ g ≡ pow 𝓐 g (length xs) *ᴿ (g +ᴿ π *ᴿ t)
 
   multiplied : (xs : List A) → All (λ x. bar x ≡ bar g) xs → Multiplied xs
   multiplied [] b = record { t = 𝟘; law = rw (product-nil 𝓐, pow-zero 𝓐 g) (solve 𝓐 2 (λ g π. con 1 ⊗ g ≈ con 1 ⊗ (g ⊕ π ⊗ con 0)) tt g π) }
   multiplied (x ∷ xs) b = step (difference E (b x (here refl))) (multiplied xs (all-tail b))
     where
-      step : (c : A) × (x ≡ g + π * c) → Multiplied xs → Multiplied (x ∷ xs)
+      step : (c : A) × (x ≡ g +ᴿ π *ᴿ c) → Multiplied xs → Multiplied (x ∷ xs)
       step (c, e) f = record {
-        t = c + f .t;
+        t = c +ᴿ f .t;
         law = rw (product-cons 𝓐 x xs, pow-suc 𝓐 g (length xs))
-            (linear3 𝓐 (product 𝓐 xs * g) (g + π * c) (pow 𝓐 g (length xs) * c * f .t) e (f .law) (E .square)
+            (linear3 𝓐 (product 𝓐 xs *ᴿ g) (g +ᴿ π *ᴿ c) (pow 𝓐 g (length xs) *ᴿ c *ᴿ f .t) e (f .law) (E .square)
             (solve 𝓐 7
             (λ x p g π c t y.
             x ⊗ p ⊗ g ⊖ g ⊗ y ⊗ (g ⊕ π ⊗ (c ⊕ t))
@@ -49,30 +49,30 @@ module _ {A B : Type 0} {𝓐 : CommRing A} {𝓑 : CommRing B} {bar : A → B} 
       ∙ ap₂ (𝓑 .mul) (b x (here refl)) (product-bar xs (all-tail b)) ∙ sym (pow-suc 𝓑 (bar g) (length xs))
 
   -- with v = h / G^(s − 1) the last member is g^(r + 1) + π·(v − t·g^r)
-  pub first-divide : (r : ℕ) → s +ℕ r ≡ m → _∣_ 𝓑 (pow 𝓑 (bar g) (s - 1)) (bar h)
+  pub first-divide : (r : ℕ) → s + r ≡ m → _∣_ 𝓑 (pow 𝓑 (bar g) (s - 1)) (bar h)
       → (xs : List A) → All (λ x. bar x ≡ bar g) xs → suc (length xs) ≡ s → _∣_ 𝓐 (product 𝓐 xs) P
   first-divide r sr (v, law) xs b n = go (multiplied xs b)
     where
-      first : π * product 𝓐 xs ≡ π * pow 𝓐 g (length xs)
+      first : π *ᴿ product 𝓐 xs ≡ π *ᴿ pow 𝓐 g (length xs)
       first = π-equal E (product-bar xs b ∙ sym (bar-pow E g (length xs)))
 
-      second : bar (lift v * pow 𝓐 g (length xs)) ≡ bar h
+      second : bar (lift v *ᴿ pow 𝓐 g (length xs)) ≡ bar h
       second =
           bar-mul-pow E (lift v) g (length xs)
           ∙ ap₂ (λ a k. 𝓑 .mul a (pow 𝓑 (bar g) k)) (bar-lift E v) (let k : length xs ≡ s - 1 = omega arith in k) ∙ law
 
-      powers : pow 𝓐 g r * (pow 𝓐 g (length xs) * g) ≡ pow 𝓐 g m
+      powers : pow 𝓐 g r *ᴿ (pow 𝓐 g (length xs) *ᴿ g) ≡ pow 𝓐 g m
       powers =
           solve 𝓐 3 (λ x y g. x ⊗ (y ⊗ g) ≈ g ⊗ y ⊗ x) tt (pow 𝓐 g r) (pow 𝓐 g (length xs)) g
-          ∙ ap (λ a. a * pow 𝓐 g r) (sym (pow-suc 𝓐 g (length xs)) ∙ ap (pow 𝓐 g) n) ∙ sym (pow-add 𝓐 g s r) ∙ ap (pow 𝓐 g) sr
+          ∙ ap (λ a. a *ᴿ pow 𝓐 g r) (sym (pow-suc 𝓐 g (length xs)) ∙ ap (pow 𝓐 g) n) ∙ sym (pow-add 𝓐 g s r) ∙ ap (pow 𝓐 g) sr
 
       go : Multiplied xs → _∣_ 𝓐 (product 𝓐 xs) P
       go f = (
-        g * pow 𝓐 g r + π * (lift v + neg (f .t * pow 𝓐 g r)),
-        linear2 𝓐 (pow 𝓐 g r) (lift v + neg (f .t * pow 𝓐 g r)) (f .law) first
+        g *ᴿ pow 𝓐 g r +ᴿ π *ᴿ (lift v +ᴿ neg (f .t *ᴿ pow 𝓐 g r)),
+        linear2 𝓐 (pow 𝓐 g r) (lift v +ᴿ neg (f .t *ᴿ pow 𝓐 g r)) (f .law) first
             (solve 𝓐 7
             (λ p g x π t v y.
             (g ⊗ x ⊕ π ⊗ (v ⊖ t ⊗ x)) ⊗ p ⊖ (x ⊗ (y ⊗ g) ⊕ π ⊗ (v ⊗ y)) ≈ x ⊗ (p ⊗ g ⊖ y ⊗ (g ⊕ π ⊗ t)) ⊕ (v ⊖ t ⊗ x) ⊗ (π ⊗ p ⊖ π ⊗ y)) tt
             (product 𝓐 xs) g (pow 𝓐 g r) π (f .t) (lift v) (pow 𝓐 g (length xs)))
-            ∙ ap₂ _+_ powers (π-equal E second) ∙ sym (q .shape),
+            ∙ ap₂ _+ᴿ_ powers (π-equal E second) ∙ sym (q .shape),
       )

@@ -1,7 +1,4 @@
-pub mod Members
-pub mod InOrder
-pub mod Sums
-pub mod Distinct
+pub mod MemberProducts
 pub mod PrimeElements
 pub mod Monics
 pub mod Kernel

@@ -13,17 +13,18 @@ use Rattle.algebra.specs.Identities.{_⊗_, _≈_, solve}
 use Rattle.algebra.specs.Divisibility.{_∣_ as Divides, Coprime, pow, product, product-cons, coprime-sym, coprime-mul, coprime-pow, gauss}
 use Rattle.algebra.specs.Homomorphisms.{keeps-divides}
 use Rattle.algebra.specs.Extension.{Extension}
-use Rattle.factorisation.specs.Members.{_∈_, All, all-map, member-divides, replace, replace-length, replace-all, replace-product}
-use Rattle.factorisation.specs.Sums.{total, total-cons, total-one, total-mono, total-equal, total-swap, member-le}
+use Rattle.lists.specs.Members.{_∈_, All, all-map, replace, replace-length, replace-all}
+use Rattle.factorisation.specs.MemberProducts.{member-divides, replace-product}
+use Rattle.lists.specs.Sums.{total, total-cons, total-one, total-mono, total-equal, total-swap, member-le}
 use Rattle.factorisation.specs.PrimeElements.{PrimeElement}
 use Rattle.factorisation.specs.ExtensionLaws.{number, bar-mul, bar-pow-π, coprime-bar-product}
 use Rattle.factorisation.specs.Classes.{in-class, class-size, outside-coprime, class-bound}
 
 module _ {A B : Type 0} {𝓐 : CommRing A} {𝓑 : CommRing B} {bar : A → B} (E : Extension 𝓐 𝓑 bar) where
-  infixl 60 _+_
-  infixl 70 _*_
+  infixl 60 _+ᴿ_
+  infixl 70 _*ᴿ_
   infix 50 _∣_
-  open CommRing 𝓐 using (add as _+_, mul as _*_)
+  open CommRing 𝓐 using (add as _+ᴿ_, mul as _*ᴿ_)
   open Extension E using (π)
 
   -- of bars
@@ -43,7 +44,7 @@ module _ {A B : Type 0} {𝓐 : CommRing A} {𝓑 : CommRing B} {bar : A → B} 
     pub m : ℕ
     pub P : A
     pub h : A
-    pub shape : P ≡ pow 𝓐 g m + π * h
+    pub shape : P ≡ pow 𝓐 g m +ᴿ π *ᴿ h
     pub s : ℕ
     pub one : 1 ≤ s
     pub longest : (m ≤ s) ⊎ ¬ (pow 𝓑 (bar g) s ∣ bar h)
@@ -101,7 +102,7 @@ module _ {A B : Type 0} {𝓐 : CommRing A} {𝓑 : CommRing B} {bar : A → B} 
 
   pub record Cofactor (q : Part) (Q : List Part) : Type 0 where
     pub C : A
-    pub law : q .P * C ≡ whole Q
+    pub law : q .P *ᴿ C ≡ whole Q
     pub coprime : Coprime 𝓑 (bar (q .g)) (bar C)
     -- what is in no class but that of q
     pub others : (x : A) → total (within x) Q ≤ within x q → Coprime 𝓑 (bar x) (bar C)
@@ -116,8 +117,8 @@ module _ {A B : Type 0} {𝓐 : CommRing A} {𝓑 : CommRing B} {bar : A → B} 
   cofactor {q} (a, apart) (there {x = r} {xs = Q} i) =
       let c = cofactor apart i in
       record {
-        C = r .P * c .C;
-        law = solve 𝓐 3 (λ p r c. p ⊗ (r ⊗ c) ≈ r ⊗ (p ⊗ c)) tt (q .P) (r .P) (c .C) ∙ ap (λ x. r .P * x) (c .law)
+        C = r .P *ᴿ c .C;
+        law = solve 𝓐 3 (λ p r c. p ⊗ (r ⊗ c) ≈ r ⊗ (p ⊗ c)) tt (q .P) (r .P) (c .C) ∙ ap (λ x. r .P *ᴿ x) (c .law)
             ∙ sym (product-cons 𝓐 (r .P) (map (λ q. q .P) Q));
         coprime = times r (coprime-sym 𝓑 (a q i)) (c .coprime);
         others = λ x l.
@@ -126,7 +127,7 @@ module _ {A B : Type 0} {𝓐 : CommRing A} {𝓑 : CommRing B} {bar : A → B} 
             times r (outside x r (omega arith)) (c .others x (omega arith));
       }
     where
-      times : (r : Part) {b : B} {C : A} → Coprime 𝓑 b (bar (r .g)) → Coprime 𝓑 b (bar C) → Coprime 𝓑 b (bar (r .P * C))
+      times : (r : Part) {b : B} {C : A} → Coprime 𝓑 b (bar (r .g)) → Coprime 𝓑 b (bar C) → Coprime 𝓑 b (bar (r .P *ᴿ C))
       times r {b} {C} c d = rw (bar-mul E (r .P) C, bar-P r) (coprime-mul 𝓑 (coprime-pow 𝓑 (r .m) c) d)
 
   -- ---- the claims
@@ -174,7 +175,7 @@ module _ {A B : Type 0} {𝓐 : CommRing A} {𝓑 : CommRing B} {bar : A → B} 
           (omega (arith, total-one L, l .full, swapped (l .list), members-le (l .list))) x i)
 
       -- C: two factors in place of a member would give a longer list
-      pub no-product : (x : A) → x ∈ L → (a b : A) → Proper a → Proper b → x ≢ a * b
+      pub no-product : (x : A) → x ∈ L → (a b : A) → Proper a → Proper b → x ≢ a *ᴿ b
       no-product x i a b p q e =
           let longer : FactorList Q (replace i a b) = record {
             factors = replace-product 𝓐 i e ∙ l .list .factors;

@@ -3,26 +3,15 @@
 -- polynomials that divide each other are equal, so that they are a choice among associates. Assumes nothing.
 use mathlib.Core.Path.{_≡_, sym, _∙_, ap, ap₂}
 use mathlib.Core.Logic.{_≢_, ⊎-elim}
-use Prim.Native.Nat.{ℕ, _≤_, _<_, _+_ as _+ℕ_}
+use Prim.Native.Nat.{ℕ, _≤_, _<_, _+_}
 use native.Mathlib.Nat.{le-antisymm}
 use native.Mathlib.Omega.{arith}
 use Rattle.algebra.specs.Numbers.{lt-or-le}
 use Rattle.algebra.specs.Ring.{CommRing, zero-mul, add-neg, eq-of-sub, linear1}
 use Rattle.algebra.specs.Identities.{con, _⊕_, _⊖_, _⊗_, _≈_, solve}
 use Rattle.algebra.specs.Divisibility.{_∣_, divides-refl}
-use Rattle.algebra.specs.Polynomials.{Poly, PolyRing, _+_, _·_, -_, 𝟎, 𝟏, coef-add, coef-neg}
-use Rattle.algebra.specs.Degree.{
-  Below,
-  Monic,
-  below-up,
-  below-add,
-  below-neg,
-  below-down,
-  below-𝟎,
-  small-multiple,
-  monic-one,
-  monic-mul,
-}
+use Rattle.algebra.specs.PolynomialRing.{Poly, PolyRing, _+ᴿ_, _·_, -ᴿ_, 𝟎, 𝟏, coef-add, coef-neg}
+use Rattle.algebra.specs.Degree.{Below, Monic, below-up, below-add, below-neg, below-down, below-𝟎, small-multiple, monic-one, monic-mul}
 use Rattle.algebra.specs.Division.{divided-unique}
 use Rattle.factorisation.specs.Monics.{Monics}
 
@@ -31,16 +20,16 @@ module _ {R : Type 0} {𝓡 : CommRing R} where
   abbrev pub IsMonic : Poly 𝓡 → Type 0
   IsMonic a = (d : ℕ) × Monic d a
 
-  pub monic-difference : {d : ℕ} {a b : Poly 𝓡} → Monic d a → Monic d b → Below d (a + - b)
+  pub monic-difference : {d : ℕ} {a b : Poly 𝓡} → Monic d a → Monic d b → Below d (a +ᴿ -ᴿ b)
   monic-difference {d} {a} {b} m n = below-down (below-add (m .below) (below-neg (n .below))) top
     where
-      top : (a + - b) .coef d ≡ 𝓡 .𝟘
+      top : (a +ᴿ -ᴿ b) .coef d ≡ 𝓡 .𝟘
       top =
-          coef-add a (- b) d
+          coef-add a (-ᴿ b) d
           ∙ ap₂ (𝓡 .add) (m .leading) (coef-neg b d ∙ ap (𝓡 .neg) (n .leading)) ∙ add-neg 𝓡 (𝓡 .𝟙)
 
   pub monic-cancel-eq : {d : ℕ} {g : Poly 𝓡} → Monic d g → {a b : Poly 𝓡} → a · g ≡ b · g → a ≡ b
-  monic-cancel-eq {d} m {a} {b} e = divided-unique m a 𝟎 b 𝟎 (below-𝟎 d) (below-𝟎 d) (ap (λ z. z + 𝟎) e) .0
+  monic-cancel-eq {d} m {a} {b} e = divided-unique m a 𝟎 b 𝟎 (below-𝟎 d) (below-𝟎 d) (ap (λ z. z +ᴿ 𝟎) e) .0
 
   module _ (nontrivial : 𝓡 .𝟙 ≢ 𝓡 .𝟘) where
     monic-not-below : {d : ℕ} {a : Poly 𝓡} → Monic d a → Below d a → ⊥
@@ -61,12 +50,12 @@ module _ {R : Type 0} {𝓡 : CommRing R} where
 
     pub monic-antisym : {d e : ℕ} {a b : Poly 𝓡} → Monic d a → Monic e b → _∣_ (PolyRing 𝓡) a b → _∣_ (PolyRing 𝓡) b a → a ≡ b
     monic-antisym {d} {e} {a} {b} m n (q, h) k =
-        sym (eq-of-sub (PolyRing 𝓡) (sym (divided-unique m q 𝟎 𝟏 (b + - a) (below-𝟎 d) (monic-difference (rw same n) m) whole .1)))
+        sym (eq-of-sub (PolyRing 𝓡) (sym (divided-unique m q 𝟎 𝟏 (b +ᴿ -ᴿ a) (below-𝟎 d) (monic-difference (rw same n) m) whole .1)))
       where
         same : d ≡ e
         same = le-antisymm (divisor-degree m n (q, h)) (divisor-degree n m k)
 
-        whole : q · a + 𝟎 ≡ 𝟏 · a + (b + - a)
+        whole : q · a +ᴿ 𝟎 ≡ 𝟏 · a +ᴿ (b +ᴿ -ᴿ a)
         whole =
             linear1 (PolyRing 𝓡) 𝟏 h
             (solve (PolyRing 𝓡) 3 (λ q a b. q ⊗ a ⊕ con 0 ⊖ (con 1 ⊗ a ⊕ (b ⊖ a)) ≈ con 1 ⊗ (q ⊗ a ⊖ b)) tt q a b)
@@ -74,7 +63,7 @@ module _ {R : Type 0} {𝓡 : CommRing R} where
     -- the monic polynomials are a choice among associated ones
     pub monics : Monics (PolyRing 𝓡) IsMonic
     monics = record {
-      monic-one = (0, monic-one);
-      monic-mul = λ (d, m) (e, n). (d +ℕ e, monic-mul m n);
+      monicOne = (0, monic-one);
+      monicMul = λ (d, m) (e, n). (d + e, monic-mul m n);
       equal = λ (d, m) (e, n) (h, k). monic-antisym m n h k;
     }

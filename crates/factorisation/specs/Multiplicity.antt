@@ -3,13 +3,13 @@
 -- element G; and that a monic polynomial of degree 1 or more has a multiplicity in every a ≢ 𝟎, over any ring with decided equality. Assumes nothing.
 use mathlib.Core.Path.{_≡_, sym, _∙_, ap, ap₂}
 use mathlib.Core.Logic.{_≢_, ⊎-elim}
-use Prim.Native.Nat.{ℕ, zero, suc, _≤_, _+_ as _+ℕ_}
+use Prim.Native.Nat.{ℕ, zero, suc, _≤_, _+_}
 use native.Mathlib.Nat.{le-antisymm}
 use native.Mathlib.Omega.{arith}
 use Rattle.algebra.specs.Ring.{CommRing, one-mul, mul-one, zero-mul}
 use Rattle.algebra.specs.Identities.{_⊗_, _≈_, solve}
 use Rattle.algebra.specs.Divisibility.{_∣_, Coprime, pow, pow-zero, pow-add, pow-divides, divides-mul, coprime-mul, gauss}
-use Rattle.algebra.specs.Polynomials.{Poly, PolyRing, _·_, 𝟎}
+use Rattle.algebra.specs.PolynomialRing.{Poly, PolyRing, _·_, 𝟎}
 use Rattle.algebra.specs.Degree.{Below, Monic, below-up, below-zero, below-factor}
 use Rattle.algebra.specs.Leading.{bound, divides?}
 use Rattle.factorisation.specs.PrimeElements.{PrimeElement, cancel-equal, mul-pow-top}
@@ -24,14 +24,14 @@ pub record Multiplicity {R : Type 0} (𝓡 : CommRing R) (G a : R) : Type 0 wher
   pub stop : ¬ _∣_ 𝓡 G w
 
 module _ {R : Type 0} (𝓡 : CommRing R) (G : R) where
-  infixl 70 _*_
-  open CommRing 𝓡 using (mul as _*_, 𝟘)
+  infixl 70 _*ᴿ_
+  open CommRing 𝓡 using (mul as _*ᴿ_, 𝟘)
 
-  module _ (cancel : (q : R) → q * G ≡ 𝟘 → q ≡ 𝟘) where
-    exponent-bound : (w : R) → ¬ _∣_ 𝓡 G w → (j k : ℕ) → _∣_ 𝓡 (pow 𝓡 G j) (w * pow 𝓡 G k) → j ≤ k
+  module _ (cancel : (q : R) → q *ᴿ G ≡ 𝟘 → q ≡ 𝟘) where
+    exponent-bound : (w : R) → ¬ _∣_ 𝓡 G w → (j k : ℕ) → _∣_ 𝓡 (pow 𝓡 G j) (w *ᴿ pow 𝓡 G k) → j ≤ k
     exponent-bound w stop zero k d = omega arith
     exponent-bound w stop (suc j) zero (q, e) =
-        absurd (stop (q * pow 𝓡 G j, mul-pow-top 𝓡 q j ∙ e ∙ ap (λ z. w * z) (pow-zero 𝓡 G) ∙ mul-one 𝓡 w))
+        absurd (stop (q *ᴿ pow 𝓡 G j, mul-pow-top 𝓡 q j ∙ e ∙ ap (λ z. w *ᴿ z) (pow-zero 𝓡 G) ∙ mul-one 𝓡 w))
     exponent-bound w stop (suc j) (suc k) (q, e) =
         let l = exponent-bound w stop j k (q, cancel-equal 𝓡 cancel (mul-pow-top 𝓡 q j ∙ e ∙ sym (mul-pow-top 𝓡 w k))) in omega arith
 
@@ -52,7 +52,7 @@ rest-coprime prime M = ⊎-elim (λ d. absurd (M .stop d)) (λ c. c) (prime .tes
 module _ {R : Type 0} {𝓡 : CommRing R} {G a b : R} where
   abbrev in-product : PrimeElement 𝓡 G → Multiplicity 𝓡 G a → Multiplicity 𝓡 G b → Multiplicity 𝓡 G (𝓡 .mul a b)
   in-product prime M N = record {
-    k = M .k +ℕ N .k;
+    k = M .k + N .k;
     w = 𝓡 .mul (M .w) (N .w);
     law = ap (𝓡 .mul (𝓡 .mul (M .w) (N .w))) (pow-add 𝓡 G (M .k) (N .k))
         ∙ solve 𝓡 4 (λ v w x y. v ⊗ w ⊗ (x ⊗ y) ≈ v ⊗ x ⊗ (w ⊗ y)) tt (M .w) (N .w) (pow 𝓡 G (M .k)) (pow 𝓡 G (N .k))
@@ -61,7 +61,7 @@ module _ {R : Type 0} {𝓡 : CommRing R} {G a b : R} where
   }
 
   pub multiplicity-mul : PrimeElement 𝓡 G → (M : Multiplicity 𝓡 G a) (N : Multiplicity 𝓡 G b) (P : Multiplicity 𝓡 G (𝓡 .mul a b))
-      → P .k ≡ M .k +ℕ N .k
+      → P .k ≡ M .k + N .k
   multiplicity-mul prime M N P = multiplicity-unique (prime .cancel) P (in-product prime M N)
 
 module _ {R : Type 0} {𝓡 : CommRing R} (decide : Discrete R) {d : ℕ} {G : Poly 𝓡} (positive : 1 ≤ d) (m : Monic d G) where

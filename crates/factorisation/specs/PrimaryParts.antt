@@ -1,19 +1,19 @@
 -- Lifting a factorisation into any number of coprime monic factors, and the primary parts of f: monic, with the bars G^m, product f.
 -- Proves that they exist, and that only one monic divisor of f has the bar G^m. Assumes nothing.
-use mathlib.Core.Path.{_≡_, refl, sym, _∙_, ap}
+use mathlib.Core.Path.{_≡_, refl, sym, _∙_, ap, _≡⟨_⟩_, _∎}
 use mathlib.Core.List.{List, [], _∷_, map, List·Memᴰ·not-nil}
 use mathlib.Core.List.{List·Memᴰ·head as here}
 use mathlib.Core.Logic.{_≢_}
 use Prim.Native.Nat.{ℕ}
 use Rattle.algebra.specs.Ring.{CommRing}
 use Rattle.algebra.specs.Divisibility.{Coprime, product, product-nil, product-cons}
-use Rattle.algebra.specs.Polynomials.{Poly, PolyRing, _·_}
+use Rattle.algebra.specs.PolynomialRing.{Poly, PolyRing, _·_}
 use Rattle.algebra.specs.Degree.{Monic, monic-one, monic-zero, monic-pow}
 use Rattle.algebra.specs.Fields.{Field}
 use Rattle.algebra.specs.Homomorphisms.{map-homomorphism, monic-map}
 use Rattle.algebra.specs.Extension.{Extension}
-use Rattle.factorisation.specs.Members.{_∈_, All, all-cons, all-tail}
-use Rattle.factorisation.specs.InOrder.{InOrder}
+use Rattle.lists.specs.Members.{_∈_, All, all-cons, all-tail}
+use Rattle.lists.specs.InOrder.{InOrder}
 use Rattle.factorisation.specs.MonicDivisors.{IsMonic, monic-degree, monic-cancel-eq}
 use Rattle.factorisation.specs.Irreducible.{Irreducible}
 use Rattle.factorisation.specs.UniqueFactorisation.{power, PowersOf, Others, power-coprime, coprime-powers, others}
@@ -45,8 +45,8 @@ module _ {A B : Type 0} {𝓐 : CommRing A} {𝓑 : CommRing B} {bar : A → B} 
     lift-cons : {d : ℕ} {f : Poly 𝓐} {X : Poly 𝓑} {l : List (Poly 𝓑)} {L : List (Poly 𝓐)} (t : LiftedPair E d f X (product (PolyRing 𝓑) l))
         → Lifts (t .b) l L → Lifts f (X ∷ l) (t .a ∷ L)
     lift-cons {d} {L = L} t h = record {
-      monic = all-cons (d, t .monic-a) (h .monic);
-      bars = λ i. t .bar-a i ∷ h .bars i;
+      monic = all-cons (d, t .monicA) (h .monic);
+      bars = λ i. t .barA i ∷ h .bars i;
       multiplies = product-cons (PolyRing 𝓐) (t .a) L ∙ ap (λ c. t .a · c) (h .multiplies) ∙ t .multiplies;
     }
 
@@ -55,7 +55,7 @@ module _ {A B : Type 0} {𝓐 : CommRing A} {𝓑 : CommRing B} {bar : A → B} 
     lifts decide lift-one [] c m e = ([], lift-nil (m .1) e)
     lifts decide lift-one (X ∷ l) (mX, c, cs) {f} m e =
         let t = lift-two E nontrivial decide lift-one (m .1) (mX .1) (sym e ∙ product-cons (PolyRing 𝓑) X l) c in
-        let (L, h) = lifts decide lift-one l cs (t .monic-b) (sym (t .bar-b)) in
+        let (L, h) = lifts decide lift-one l cs (t .monicB) (sym (t .barB)) in
         (t .a ∷ L, lift-cons t h)
 
 -- ---- primary parts
@@ -78,20 +78,27 @@ module _ {A B : Type 0} {𝓐 : CommRing A} {𝓑 : CommRing B} {bar : A → B} 
   pub primary-parts : Discrete A → E .lift (𝓑 .𝟙) ≡ 𝓐 .𝟙 → {f : Poly 𝓐} {l : List (Poly 𝓑 × ℕ)} → IsMonic f → PowersOf (reduce E f) l
       → (L : List (Poly 𝓐)) × Lifts E f (map power l) L
   primary-parts decide lift-one {l = l} m l-is =
-      lifts E (field .one-ne-zero) decide lift-one (map power l) (powers-coprime field l (l-is .irreducible) (l-is .different)) m (l-is .multiplies)
+      lifts E (field .oneNeZero) decide lift-one (map power l) (powers-coprime field l (l-is .irreducible) (l-is .different)) m (l-is .multiplies)
 
   -- P and P′ divide f, with the cofactors C and C′
   pub primary-part-unique : {f : Poly 𝓐} {l : List (Poly 𝓑 × ℕ)} → PowersOf (reduce E f) l → (Q : Poly 𝓑 × ℕ) → Q ∈ l
       → {P P′ : Poly 𝓐} → IsMonic P → IsMonic P′ → reduce E P ≡ power Q → reduce E P′ ≡ power Q
       → (C C′ : Poly 𝓐) → P · C ≡ f → P′ · C′ ≡ f → P ≡ P′
   primary-part-unique {f} l-is Q i {P} m m′ b b′ C C′ e e′ =
-      part-unique E (field .one-ne-zero) C C′ (m .1) (m′ .1) (e ∙ sym e′) (b ∙ sym b′) (rw (b, cofactor) (power-coprime Q (t .coprime)))
+      part-unique E (field .oneNeZero) C C′ (m .1) (m′ .1) (e ∙ sym e′) (b ∙ sym b′) (rw (b, cofactor) (power-coprime Q (t .coprime)))
     where
       t : Others Q (reduce E f)
       t = others field l-is Q i
 
       cofactor : reduce E C ≡ t .rest
-      cofactor =
-          monic-cancel-eq (monic-map (E .hom) (m .1))
-          ((PolyRing 𝓑) .*-comm (reduce E C) (reduce E P) ∙ sym ((map-homomorphism (E .hom)) .keeps-mul P C) ∙ ap (reduce E) e
-          ∙ sym (t .multiplies) ∙ ap (λ X. X · t .rest) (sym b) ∙ (PolyRing 𝓑) .*-comm (reduce E P) (t .rest))
+      cofactor = monic-cancel-eq (monic-map (E .hom) (m .1)) same
+        where
+          same : reduce E C · reduce E P ≡ t .rest · reduce E P
+          same =
+              reduce E C · reduce E P ≡⟨ (PolyRing 𝓑) .*-comm (reduce E C) (reduce E P) ⟩
+              reduce E P · reduce E C ≡⟨ sym ((map-homomorphism (E .hom)) .keepsMul P C) ⟩
+              reduce E (P · C) ≡⟨ ap (reduce E) e ⟩
+              reduce E f ≡⟨ sym (t .multiplies) ⟩
+              power Q · t .rest ≡⟨ ap (λ X. X · t .rest) (sym b) ⟩
+              reduce E P · t .rest ≡⟨ (PolyRing 𝓑) .*-comm (reduce E P) (t .rest) ⟩
+              t .rest · reduce E P ∎

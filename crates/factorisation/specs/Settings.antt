@@ -5,7 +5,7 @@ use mathlib.Core.Logic.{_⊎_, inl, inr, ⊎-elim}
 use mathlib.Core.List.{List, [], _∷_}
 use mathlib.Core.List.{List·Memᴰ·head as here, List·Memᴰ·tail as there}
 use lib.ListN.{length}
-use Prim.Native.Nat.{ℕ, suc, _≤_, _-_, _+_ as _+ℕ_}
+use Prim.Native.Nat.{ℕ, suc, _≤_, _-_, _+_}
 use native.Mathlib.Omega.{arith}
 use Rattle.algebra.specs.Numbers.{lt-or-le}
 use Rattle.algebra.specs.Ring.{CommRing, linear3, zero-mul, add-left-cancel}
@@ -28,8 +28,9 @@ use Rattle.algebra.specs.Divisibility.{
 }
 use Rattle.algebra.specs.Homomorphisms.{keeps-zero}
 use Rattle.algebra.specs.Extension.{Extension}
-use Rattle.factorisation.specs.Members.{_∈_, All, all-cons, all-tail, member-divides}
-use Rattle.factorisation.specs.Sums.{total, total-nil, total-cons, total-one, total-mono, total-equal, member-le}
+use Rattle.lists.specs.Members.{_∈_, All, all-cons, all-tail}
+use Rattle.factorisation.specs.MemberProducts.{member-divides}
+use Rattle.lists.specs.Sums.{total, total-nil, total-cons, total-one, total-mono, total-equal, member-le}
 use Rattle.factorisation.specs.PrimeElements.{pow-injective}
 use Rattle.factorisation.specs.ExtensionLaws.{bars, bar-pow, bar-pow-π, difference, π-injective}
 use Rattle.factorisation.specs.LongestLists.{Part, Proper, bar-P}
@@ -37,10 +38,10 @@ use Rattle.factorisation.specs.Monics.{Monics}
 use Rattle.factorisation.specs.Blocks.{multiplicity, divisor-bar, divisor-pos}
 
 module _ {A B : Type 0} {𝓐 : CommRing A} {𝓑 : CommRing B} {bar : A → B} (E : Extension 𝓐 𝓑 bar) (Monic : B → Type 0) (q : Part E) where
-  infixl 60 _+_
-  infixl 70 _*_
+  infixl 60 _+ᴿ_
+  infixl 70 _*ᴿ_
   infix 50 _∣_
-  open CommRing 𝓐 using (add as _+_, mul as _*_, 𝟘)
+  open CommRing 𝓐 using (add as _+ᴿ_, mul as _*ᴿ_, 𝟘)
   open Extension E using (π)
   open Part q using (g, prime, m, P, h, s)
 
@@ -66,7 +67,7 @@ module _ {A B : Type 0} {𝓐 : CommRing A} {𝓑 : CommRing B} {bar : A → B} 
 
   record Form (n : ℕ) (L : List A) : Type 0 where
     T : A
-    law : product 𝓐 L ≡ pow 𝓐 g (total e L) + π * T
+    law : product 𝓐 L ≡ pow 𝓐 g (total e L) +ᴿ π *ᴿ T
     divides : pow 𝓑 (bar g) (total e L - n) ∣ bar T
 
   form : (n : ℕ) (L : List A) → All Power L → All (λ x. e x ≤ n) L → Form n L
@@ -77,11 +78,11 @@ module _ {A B : Type 0} {𝓐 : CommRing A} {𝓑 : CommRing B} {bar : A → B} 
   }
   form n (x ∷ L) p b = step (difference E (p x (here refl) ∙ sym (bar-pow E g (e x)))) (form n L (all-tail p) (all-tail b))
     where
-      step : (t : A) × (x ≡ pow 𝓐 g (e x) + π * t) → Form n L → Form n (x ∷ L)
+      step : (t : A) × (x ≡ pow 𝓐 g (e x) +ᴿ π *ᴿ t) → Form n L → Form n (x ∷ L)
       step (t, d) f = record {
-        T = t * pow 𝓐 g (total e L) + pow 𝓐 g (e x) * f .T;
+        T = t *ᴿ pow 𝓐 g (total e L) +ᴿ pow 𝓐 g (e x) *ᴿ f .T;
         law = rw (product-cons 𝓐 x L, total-cons e x L, pow-add 𝓐 g (e x) (total e L))
-            (linear3 𝓐 (product 𝓐 L) (pow 𝓐 g (e x) + π * t) (t * f .T) d (f .law) (E .square)
+            (linear3 𝓐 (product 𝓐 L) (pow 𝓐 g (e x) +ᴿ π *ᴿ t) (t *ᴿ f .T) d (f .law) (E .square)
             (solve 𝓐 7
             (λ x p a b π t T.
             x ⊗ p ⊖ (a ⊗ b ⊕ π ⊗ (t ⊗ b ⊕ a ⊗ T))
@@ -95,7 +96,7 @@ module _ {A B : Type 0} {𝓐 : CommRing A} {𝓑 : CommRing B} {bar : A → B} 
 
   -- ---- from settings to bars
 
-  module _ (M : Monics 𝓑 Monic) (monicG : Monic (bar g)) (r : ℕ) (sr : s +ℕ r ≡ m)
+  module _ (M : Monics 𝓑 Monic) (monicG : Monic (bar g)) (r : ℕ) (sr : s + r ≡ m)
       {xs : List A} {y : A} (l : Setting xs y) where
     abbrev L : List A
     L = y ∷ xs
@@ -123,7 +124,7 @@ module _ {A B : Type 0} {𝓐 : CommRing A} {𝓑 : CommRing B} {bar : A → B} 
         f = form r L powers b
 
         same : bar h ≡ bar (f .T)
-        same = π-injective E (add-left-cancel 𝓐 (sym (q .shape) ∙ sym (l .factors) ∙ f .law ∙ ap (λ n. pow 𝓐 g n + π * f .T) sum))
+        same = π-injective E (add-left-cancel 𝓐 (sym (q .shape) ∙ sym (l .factors) ∙ f .law ∙ ap (λ n. pow 𝓐 g n +ᴿ π *ᴿ f .T) sum))
 
         go : (m ≤ s) ⊎ ¬ (pow 𝓑 (bar g) s ∣ bar h) → ⊥
         go (inl t) = omega (arith, t, sr, b y (here refl), positive y (here refl))

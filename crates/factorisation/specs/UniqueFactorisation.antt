@@ -23,10 +23,10 @@ use Rattle.algebra.specs.Divisibility.{
   coprime-pow,
   gauss,
 }
-use Rattle.algebra.specs.Polynomials.{Poly, PolyRing, _·_}
+use Rattle.algebra.specs.PolynomialRing.{Poly, PolyRing, _·_}
 use Rattle.algebra.specs.Fields.{Field}
-use Rattle.factorisation.specs.Members.{_∈_, All, all-tail}
-use Rattle.factorisation.specs.InOrder.{StrictOrder, InOrder, in-order-unique}
+use Rattle.lists.specs.Members.{_∈_, All, all-tail}
+use Rattle.lists.specs.InOrder.{StrictOrder, InOrder, in-order-unique}
 use Rattle.factorisation.specs.Irreducible.{Irreducible, irreducible-prime, same-or-coprime, different-coprime}
 use Rattle.factorisation.specs.Multiplicity.{Multiplicity, coprime-not-divides, multiplicity-unique}
 

@@ -4,12 +4,12 @@
 use mathlib.Core.Path.{_≡_, refl, sym, _∙_, ap}
 use Rattle.algebra.specs.Ring.{CommRing, zero-mul}
 use Rattle.algebra.specs.Divisibility.{_∣_, divides-refl}
-use Rattle.algebra.specs.Polynomials.{
+use Rattle.algebra.specs.PolynomialRing.{
   Poly,
   PolyRing,
-  _+_,
+  _+ᴿ_,
   _·_,
-  -_,
+  -ᴿ_,
   𝟎,
   x,
   constant,
@@ -37,7 +37,7 @@ use Rattle.algebra.specs.Congruence.{
 module _ {R : Type 0} {𝓡 : CommRing R} where
   -- x − y
   abbrev pub linear : R → Poly 𝓡
-  linear y = x + - constant y
+  linear y = x +ᴿ -ᴿ constant y
 
   pub monic-linear : (y : R) → Monic 1 (linear y)
   monic-linear y = monic-add monic-x (below-neg (below-constant y))
@@ -69,11 +69,11 @@ module _ {R : Type 0} (𝓡 : CommRing R) (decide : Discrete R) (y : R) where
 
   pub evaluation : Homomorphism (PolyRing 𝓡) 𝓡 evaluate
   evaluation = record {
-    keeps-add = λ a b. value-unique (a + b) (𝓡 .add (evaluate a) (evaluate b))
+    keepsAdd = λ a b. value-unique (a +ᴿ b) (𝓡 .add (evaluate a) (evaluate b))
         (rw (constant-add (evaluate a) (evaluate b)) (congruent-add (PolyRing 𝓡) (congruent-value a) (congruent-value b)));
-    keeps-mul = λ a b. value-unique (a · b) (𝓡 .mul (evaluate a) (evaluate b))
+    keepsMul = λ a b. value-unique (a · b) (𝓡 .mul (evaluate a) (evaluate b))
         (rw (constant-mul (evaluate a) (evaluate b)) (congruent-mul (PolyRing 𝓡) (congruent-value a) (congruent-value b)));
-    keeps-one = ap evaluate (sym (constant-one 𝓡)) ∙ evaluate-constant (𝓡 .𝟙);
+    keepsOne = ap evaluate (sym (constant-one 𝓡)) ∙ evaluate-constant (𝓡 .𝟙);
   }
 
   -- a root gives a linear divisor

@@ -1,6 +1,6 @@
--- Powers in characteristic p: (a + b)^p = a^p + b^p in every ring A with a homomorphism from ℤ/p, p a prime.
--- The proof is that of the binomial theorem: the coefficients of (x + b)^p in A[x] between the first and the last are 𝟘, since
--- k·coefₖ (x + b)ⁿ = n·coefₖ₋₁ (x + b)ⁿ⁻¹ and k has an inverse; then x is a. Assumes nothing.
+-- Powers in characteristic p. Proves that (a + b)^p = a^p + b^p in every ring A with a homomorphism from ℤ/p, p a prime, as the binomial
+-- theorem does: the coefficients of (x + b)^p in A[x] between the first and the last are 𝟘, since k·coefₖ (x + b)ⁿ = n·coefₖ₋₁ (x + b)ⁿ⁻¹
+-- and k has an inverse; then x is a. Assumes nothing.
 use mathlib.Core.Path.{_≡_, sym, _∙_, ap, ap₂}
 use mathlib.Core.Logic.{_⊎_, inl, inr, _≢_, ⊎-elim}
 use Prim.Native.Nat.{ℕ, zero, suc, _<_, _-_}
@@ -11,10 +11,10 @@ use Rattle.algebra.specs.Ring.{CommRing, ring, add-mul, add-zero, linear3}
 use Rattle.algebra.specs.Identities.{con, _⊕_, _⊖_, _⊗_, ⊝_, _≈_, solve}
 use Rattle.algebra.specs.Divisibility.{pow, pow-zero, pow-suc}
 use Rattle.algebra.specs.Residues.{ℤ/, residue, Residues, residue-one, residue-suc, residue-self, zero-remainder}
-use Rattle.algebra.specs.Polynomials.{
+use Rattle.algebra.specs.PolynomialRing.{
   Poly,
   PolyRing,
-  _+_,
+  _+ᴿ_,
   _·_,
   x,
   constant,
@@ -35,37 +35,37 @@ use Rattle.frobenius.specs.Evaluation.{evaluate, evaluation, evaluate-x,
 
 module _ {A : Type 0} (𝓐 : CommRing A) (b : A) where
   infixl 60 _∔_
-  infixl 70 _*_
-  open CommRing 𝓐 using (add as _∔_, mul as _*_, neg, 𝟘, 𝟙)
+  infixl 70 _*ᴿ_
+  open CommRing 𝓐 using (add as _∔_, mul as _*ᴿ_, neg, 𝟘, 𝟙)
 
   -- the coefficient of x^k in (x + b)^n
   abbrev coefficient : ℕ → ℕ → A
-  coefficient n k = (pow (PolyRing 𝓐) (x + constant b) n) .coef k
+  coefficient n k = (pow (PolyRing 𝓐) (x +ᴿ constant b) n) .coef k
 
-  next : (n : ℕ) → pow (PolyRing 𝓐) (x + constant b) (suc n)
-      ≡ x · pow (PolyRing 𝓐) (x + constant b) n + constant b · pow (PolyRing 𝓐) (x + constant b) n
-  next n = pow-suc (PolyRing 𝓐) (x + constant b) n ∙ add-mul (PolyRing 𝓐) x (constant b) (pow (PolyRing 𝓐) (x + constant b) n)
+  next : (n : ℕ) → pow (PolyRing 𝓐) (x +ᴿ constant b) (suc n)
+      ≡ x · pow (PolyRing 𝓐) (x +ᴿ constant b) n +ᴿ constant b · pow (PolyRing 𝓐) (x +ᴿ constant b) n
+  next n = pow-suc (PolyRing 𝓐) (x +ᴿ constant b) n ∙ add-mul (PolyRing 𝓐) x (constant b) (pow (PolyRing 𝓐) (x +ᴿ constant b) n)
 
-  coefficient-first : (n : ℕ) → coefficient (suc n) 0 ≡ b * coefficient n 0
+  coefficient-first : (n : ℕ) → coefficient (suc n) 0 ≡ b *ᴿ coefficient n 0
   coefficient-first n =
       ap (λ a. a .coef 0) (next n)
-      ∙ simp (coef-add, coef-x-mul-zero, coef-constant-mul) (𝓐 .+-zero (b * coefficient n 0))
+      ∙ simp (coef-add, coef-x-mul-zero, coef-constant-mul) (𝓐 .+-zero (b *ᴿ coefficient n 0))
 
-  coefficient-next : (n k : ℕ) → coefficient (suc n) (suc k) ≡ coefficient n k ∔ b * coefficient n (suc k)
+  coefficient-next : (n k : ℕ) → coefficient (suc n) (suc k) ≡ coefficient n k ∔ b *ᴿ coefficient n (suc k)
   coefficient-next n k = ap (λ a. a .coef (suc k)) (next n) ∙ simp (coef-add, coef-x-mul-suc, coef-constant-mul)
 
   coefficient-none : (k : ℕ) → coefficient 0 (suc k) ≡ 𝟘
   coefficient-none k =
-      ap (λ a. a .coef (suc k)) (pow-zero (PolyRing 𝓐) (x + constant b) ∙ sym (constant-one 𝓐)) ∙ coef-constant-suc 𝓐 𝟙 k
+      ap (λ a. a .coef (suc k)) (pow-zero (PolyRing 𝓐) (x +ᴿ constant b) ∙ sym (constant-one 𝓐)) ∙ coef-constant-suc 𝓐 𝟙 k
 
   coefficient-constant : (n : ℕ) → coefficient n 0 ≡ pow 𝓐 b n
   coefficient-constant zero =
-      ap (λ a. a .coef 0) (pow-zero (PolyRing 𝓐) (x + constant b) ∙ sym (constant-one 𝓐)) ∙ coef-constant-zero 𝓐 𝟙 ∙ sym (pow-zero 𝓐 b)
-  coefficient-constant (suc n) = coefficient-first n ∙ ap (λ c. b * c) (coefficient-constant n) ∙ sym (pow-suc 𝓐 b n)
+      ap (λ a. a .coef 0) (pow-zero (PolyRing 𝓐) (x +ᴿ constant b) ∙ sym (constant-one 𝓐)) ∙ coef-constant-zero 𝓐 𝟙 ∙ sym (pow-zero 𝓐 b)
+  coefficient-constant (suc n) = coefficient-first n ∙ ap (λ c. b *ᴿ c) (coefficient-constant n) ∙ sym (pow-suc 𝓐 b n)
 
   -- the numbers n·1, of which only the step from one to the next is used
   module _ (number : ℕ → A) (number-one : number 1 ≡ 𝟙) (number-suc : (n : ℕ) → number (suc n) ≡ 𝟙 ∔ number n) where
-    absorb : (n k : ℕ) → number (suc k) * coefficient (suc n) (suc k) ≡ number (suc n) * coefficient n k
+    absorb : (n k : ℕ) → number (suc k) *ᴿ coefficient (suc n) (suc k) ≡ number (suc n) *ᴿ coefficient n k
     absorb zero zero = rw (coefficient-next 0 0, coefficient-none 0) (simp ring)
     absorb zero (suc k) = rw (coefficient-next 0 (suc k), coefficient-none k, coefficient-none (suc k)) (simp ring)
     absorb (suc n) zero =
@@ -85,22 +85,22 @@ module _ {A : Type 0} (𝓐 : CommRing A) (b : A) where
         (coefficient n (suc k))))
 
     -- where n + 1 is 𝟘, and k + 1 has an inverse
-    coefficient-gone : (n k : ℕ) → number (suc n) ≡ 𝟘 → (u : A) → u * number (suc k) ≡ 𝟙 → coefficient (suc n) (suc k) ≡ 𝟘
+    coefficient-gone : (n k : ℕ) → number (suc n) ≡ 𝟘 → (u : A) → u *ᴿ number (suc k) ≡ 𝟙 → coefficient (suc n) (suc k) ≡ 𝟘
     coefficient-gone n k gone u unit =
-        linear3 𝓐 u (neg (coefficient (suc n) (suc k))) (u * coefficient n k) (absorb n k) unit gone
+        linear3 𝓐 u (neg (coefficient (suc n) (suc k))) (u *ᴿ coefficient n k) (absorb n k) unit gone
         (solve 𝓐 5 (λ B u K N c. B ⊖ con 0 ≈ u ⊗ (K ⊗ B ⊖ N ⊗ c) ⊕ ⊝ B ⊗ (u ⊗ K ⊖ con 1) ⊕ u ⊗ c ⊗ (N ⊖ con 0)) tt
         (coefficient (suc n) (suc k)) u (number (suc k)) (number (suc n)) (coefficient n k))
 
-  monic-power : (n : ℕ) → Monic n (pow (PolyRing 𝓐) (x + constant b) n)
+  monic-power : (n : ℕ) → Monic n (pow (PolyRing 𝓐) (x +ᴿ constant b) n)
   monic-power n = rw (mul-oneℕ n) at (monic-pow {𝓡 = 𝓐} (monic-add monic-x (below-constant b)) n)
 
   -- only the first and the last coefficient are left
   linear-power : (n : ℕ) → ((k : ℕ) → k < n → coefficient (suc n) (suc k) ≡ 𝟘)
-      → pow (PolyRing 𝓐) (x + constant b) (suc n) ≡ x^ (suc n) + constant (pow 𝓐 b (suc n))
+      → pow (PolyRing 𝓐) (x +ᴿ constant b) (suc n) ≡ x^ (suc n) +ᴿ constant (pow 𝓐 b (suc n))
   linear-power n gone = poly-ext at
     where
       ends : Poly 𝓐
-      ends = x^ (suc n) + constant (pow 𝓐 b (suc n))
+      ends = x^ (suc n) +ᴿ constant (pow 𝓐 b (suc n))
 
       ends-first : ends .coef 0 ≡ pow 𝓐 b (suc n)
       ends-first =
@@ -128,25 +128,25 @@ module _ {A : Type 0} (𝓐 : CommRing A) (b : A) where
 
 module _ {p : ℕ} (P : Prime p) {A : Type 0} {𝓐 : CommRing A} {ι : ℤ/ p → A} (h : Homomorphism (Residues p) 𝓐 ι) where
   infixl 60 _∔_
-  infixl 70 _*_
-  open CommRing 𝓐 using (add as _∔_, mul as _*_, 𝟘, 𝟙)
+  infixl 70 _*ᴿ_
+  open CommRing 𝓐 using (add as _∔_, mul as _*ᴿ_, 𝟘, 𝟙)
 
   abbrev number : ℕ → A
   number k = ι (residue p k)
 
   number-one : number 1 ≡ 𝟙
-  number-one = ap ι (residue-one p) ∙ h .keeps-one
+  number-one = ap ι (residue-one p) ∙ h .keepsOne
 
   number-suc : (k : ℕ) → number (suc k) ≡ 𝟙 ∔ number k
-  number-suc k = ap ι (residue-suc p k) ∙ h .keeps-add _ _ ∙ ap (λ c. c ∔ number k) (h .keeps-one)
+  number-suc k = ap ι (residue-suc p k) ∙ h .keepsAdd _ _ ∙ ap (λ c. c ∔ number k) (h .keepsOne)
 
   number-p : number p ≡ 𝟘
   number-p = ap ι (residue-self p (prime-pos P)) ∙ keeps-zero h
 
-  number-inverse : (k : ℕ) → 0 < k → k < p → (u : A) × (u * number k ≡ 𝟙)
+  number-inverse : (k : ℕ) → 0 < k → k < p → (u : A) × (u *ᴿ number k ≡ 𝟙)
   number-inverse k l s =
       let (u, e) = residue-field p P .inverse (residue p k) nonzero in
-      (ι u, 𝓐 .*-comm (ι u) (number k) ∙ sym (h .keeps-mul (residue p k) u) ∙ ap ι e ∙ h .keeps-one)
+      (ι u, 𝓐 .*-comm (ι u) (number k) ∙ sym (h .keepsMul (residue p k) u) ∙ ap ι e ∙ h .keepsOne)
     where
       nonzero : residue p k ≢ (Residues p) .𝟘
       nonzero e = omega (arith, zero-remainder p (prime-pos P) k e, mod-eq-of-lt s)
@@ -154,7 +154,7 @@ module _ {p : ℕ} (P : Prime p) {A : Type 0} {𝓐 : CommRing A} {ι : ℤ/ p �
   frobenius-suc : Discrete A → (n : ℕ) → suc n ≡ p → (a b : A) → pow 𝓐 (a ∔ b) (suc n) ≡ pow 𝓐 a (suc n) ∔ pow 𝓐 b (suc n)
   frobenius-suc decide n e a b = sym left ∙ ap at (linear-power 𝓐 b n gone) ∙ right
     where
-      gone : (k : ℕ) → k < n → (pow (PolyRing 𝓐) (x + constant b) (suc n)) .coef (suc k) ≡ 𝟘
+      gone : (k : ℕ) → k < n → (pow (PolyRing 𝓐) (x +ᴿ constant b) (suc n)) .coef (suc k) ≡ 𝟘
       gone k l =
           let (u, unit) = number-inverse (suc k) (omega arith) (omega arith) in
           coefficient-gone 𝓐 b number number-one number-suc n k (ap number e ∙ number-p) u unit
@@ -162,15 +162,15 @@ module _ {p : ℕ} (P : Prime p) {A : Type 0} {𝓐 : CommRing A} {ι : ℤ/ p �
       at : Poly 𝓐 → A
       at = evaluate 𝓐 decide a
 
-      left : at (pow (PolyRing 𝓐) (x + constant b) (suc n)) ≡ pow 𝓐 (a ∔ b) (suc n)
+      left : at (pow (PolyRing 𝓐) (x +ᴿ constant b) (suc n)) ≡ pow 𝓐 (a ∔ b) (suc n)
       left =
-          keeps-pow (evaluation 𝓐 decide a) (x + constant b) (suc n)
+          keeps-pow (evaluation 𝓐 decide a) (x +ᴿ constant b) (suc n)
           ∙ ap (λ c. pow 𝓐 c (suc n))
-          (evaluation 𝓐 decide a .keeps-add x (constant b) ∙ ap₂ _∔_ (evaluate-x 𝓐 decide a) (evaluate-constant 𝓐 decide a b))
+          (evaluation 𝓐 decide a .keepsAdd x (constant b) ∙ ap₂ _∔_ (evaluate-x 𝓐 decide a) (evaluate-constant 𝓐 decide a b))
 
-      right : at (x^ (suc n) + constant (pow 𝓐 b (suc n))) ≡ pow 𝓐 a (suc n) ∔ pow 𝓐 b (suc n)
+      right : at (x^ (suc n) +ᴿ constant (pow 𝓐 b (suc n))) ≡ pow 𝓐 a (suc n) ∔ pow 𝓐 b (suc n)
       right =
-          evaluation 𝓐 decide a .keeps-add (x^ (suc n)) (constant (pow 𝓐 b (suc n)))
+          evaluation 𝓐 decide a .keepsAdd (x^ (suc n)) (constant (pow 𝓐 b (suc n)))
           ∙ ap₂ _∔_ (keeps-pow (evaluation 𝓐 decide a) x (suc n) ∙ ap (λ c. pow 𝓐 c (suc n)) (evaluate-x 𝓐 decide a))
           (evaluate-constant 𝓐 decide a (pow 𝓐 b (suc n)))
 

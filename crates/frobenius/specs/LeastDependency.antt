@@ -9,12 +9,12 @@ use native.Mathlib.Decide.{ℕ-discrete}
 use native.Mathlib.Omega.{arith}
 use Rattle.algebra.specs.Ring.{CommRing, ring, mul-zero, add-neg, linear1}
 use Rattle.algebra.specs.Identities.{con, _⊕_, _⊖_, _⊗_, ⊝_, _≈_, solve}
-use Rattle.algebra.specs.Polynomials.{
+use Rattle.algebra.specs.PolynomialRing.{
   Poly,
   PolyRing,
-  _+_,
+  _+ᴿ_,
   _·_,
-  -_,
+  -ᴿ_,
   𝟎,
   constant,
   coef-zero,
@@ -46,7 +46,7 @@ module _ {R : Type 0} {𝓡 : CommRing R} (t : ℕ → Poly 𝓡) (m n o : ℕ) 
     pub stage-found : u ≡ 𝟎 → LeastDependency t m o i w
     stage-found e = record { monic = D .monic; base = D .base; kernel = D .image ∙ e; least = S .injective }
 
-    reduced : Span r n (t i + - u)
+    reduced : Span r n (t i +ᴿ -ᴿ u)
     reduced = D .back u (rw (add-neg (PolyRing 𝓡) u) (span-𝟎 r κ))
 
     module _ (field : Field 𝓡) (first : o ≤ i) (last : i < m) where
@@ -68,7 +68,7 @@ module _ {R : Type 0} {𝓡 : CommRing R} (t : ℕ → Poly 𝓡) (m n o : ℕ) 
       rows-span v h e d unit =
           rw whole at (span-add r n _ _ (span-multiple r n (𝓡 .neg d) _ (rw e at (rest-spans v h))) (span-multiple r n (𝓡 .neg (𝓡 .𝟙)) _ reduced))
         where
-          whole : constant (𝓡 .neg d) · less 𝟎 (v .coef i) (t i) + constant (𝓡 .neg (𝓡 .𝟙)) · (t i + - u) ≡ u
+          whole : constant (𝓡 .neg d) · less 𝟎 (v .coef i) (t i) +ᴿ constant (𝓡 .neg (𝓡 .𝟙)) · (t i +ᴿ -ᴿ u) ≡ u
           whole =
               rw (constant-neg d, constant-neg (𝓡 .𝟙), constant-one 𝓡)
               (linear1 (PolyRing 𝓡) (t i) (constant-unit 𝓡 unit)
@@ -88,12 +88,12 @@ module _ {R : Type 0} {𝓡 : CommRing R} (t : ℕ → Poly 𝓡) (m n o : ℕ) 
           (row : r′ k ≡ constant c · u) (pre : s′ k ≡ constant c · w)
           (rows : (j : ℕ) → j ≢ k → r′ j ≡ r j) (pres : (j : ℕ) → j ≢ k → s′ j ≡ s j) where
         nonzero : u .coef k ≢ 𝓡 .𝟘
-        nonzero e = field .one-ne-zero (sym unit ∙ ap (𝓡 .mul c) e ∙ mul-zero 𝓡 c)
+        nonzero e = field .oneNeZero (sym unit ∙ ap (𝓡 .mul c) e ∙ mul-zero 𝓡 c)
 
         -- no row has the degree of u
         clear : (j : ℕ) → k ≤ j → j < n → Clear r u j
         clear j l g m =
-            ⊎-elim (λ e. absurd (field .one-ne-zero (sym (m .leading) ∙ ap (λ a. a .coef j) (ap r (sym e) ∙ free) ∙ coef-zero 𝓡 j)))
+            ⊎-elim (λ e. absurd (field .oneNeZero (sym (m .leading) ∙ ap (λ a. a .coef j) (ap r (sym e) ∙ free) ∙ coef-zero 𝓡 j)))
             (λ h. D .clear j (omega arith) g m) (eq-or-lt-of-le l)
 
         not-spanned : ¬ Span r n u
@@ -108,10 +108,10 @@ module _ {R : Type 0} {𝓡 : CommRing R} (t : ℕ → Poly 𝓡) (m n o : ℕ) 
 
         new-spans : Span r′ n (t i)
         new-spans =
-            rw whole at (span-add r′ n (t i + - u) (constant (u .coef k) · r′ k) (span-insert r r′ k free rows n (t i + - u) reduced)
+            rw whole at (span-add r′ n (t i +ᴿ -ᴿ u) (constant (u .coef k) · r′ k) (span-insert r r′ k free rows n (t i +ᴿ -ᴿ u) reduced)
             (span-multiple r′ n (u .coef k) (r′ k) (span-row r′ n k fits)))
           where
-            whole : t i + - u + constant (u .coef k) · r′ k ≡ t i
+            whole : t i +ᴿ -ᴿ u +ᴿ constant (u .coef k) · r′ k ≡ t i
             whole =
                 rw row
                 (linear1 (PolyRing 𝓡) u (constant-unit 𝓡 unit)

@@ -9,12 +9,12 @@ use native.Mathlib.Omega.{arith}
 use Rattle.algebra.specs.Ring.{CommRing, ring, zero-mul, mul-zero, add-zero, add-neg, neg-unique}
 use Rattle.algebra.specs.Identities.{_⊕_, _⊖_, _⊗_, _≈_, solve}
 use Rattle.algebra.specs.Divisibility.{_∣_}
-use Rattle.algebra.specs.Polynomials.{
+use Rattle.algebra.specs.PolynomialRing.{
   Poly,
   PolyRing,
-  _+_,
+  _+ᴿ_,
   _·_,
-  -_,
+  -ᴿ_,
   𝟎,
   constant,
   coef-zero,
@@ -43,7 +43,7 @@ use Rattle.algebra.specs.Congruence.{
 module _ {R : Type 0} {𝓡 : CommRing R} where
   unfoldable pub apply : (ℕ → Poly 𝓡) → ℕ → Poly 𝓡 → Poly 𝓡
   apply t zero v = 𝟎
-  apply t (suc n) v = apply t n v + constant (v .coef n) · t n
+  apply t (suc n) v = apply t n v +ᴿ constant (v .coef n) · t n
 
   -- ---- linear
 
@@ -52,19 +52,19 @@ module _ {R : Type 0} {𝓡 : CommRing R} where
     unfolding apply
     apply-zero v = refl
 
-    pub apply-suc : (n : ℕ) (v : Poly 𝓡) → apply t (suc n) v ≡ apply t n v + constant (v .coef n) · t n
+    pub apply-suc : (n : ℕ) (v : Poly 𝓡) → apply t (suc n) v ≡ apply t n v +ᴿ constant (v .coef n) · t n
     unfolding apply
     apply-suc n v = refl
 
     -- the steps of the recursions stand apart, so that their clauses stay cheap to check
-    add-step : (n : ℕ) (v w : Poly 𝓡) → apply t n (v + w) ≡ apply t n v + apply t n w → apply t (suc n) (v + w) ≡ apply t (suc n) v + apply t (suc n) w
+    add-step : (n : ℕ) (v w : Poly 𝓡) → apply t n (v +ᴿ w) ≡ apply t n v +ᴿ apply t n w → apply t (suc n) (v +ᴿ w) ≡ apply t (suc n) v +ᴿ apply t (suc n) w
     add-step n v w e =
-        rw (apply-suc n (v + w), apply-suc n v, apply-suc n w, e, coef-add v w n, constant-add (v .coef n) (w .coef n))
+        rw (apply-suc n (v +ᴿ w), apply-suc n v, apply-suc n w, e, coef-add v w n, constant-add (v .coef n) (w .coef n))
         (solve (PolyRing 𝓡) 5 (λ a b c d t. a ⊕ b ⊕ (c ⊕ d) ⊗ t ≈ a ⊕ c ⊗ t ⊕ (b ⊕ d ⊗ t)) tt
         (apply t n v) (apply t n w) (constant (v .coef n)) (constant (w .coef n)) (t n))
 
-    apply-add : (n : ℕ) (v w : Poly 𝓡) → apply t n (v + w) ≡ apply t n v + apply t n w
-    apply-add zero v w = rw (apply-zero (v + w), apply-zero v, apply-zero w) (sym (add-zero (PolyRing 𝓡) 𝟎))
+    apply-add : (n : ℕ) (v w : Poly 𝓡) → apply t n (v +ᴿ w) ≡ apply t n v +ᴿ apply t n w
+    apply-add zero v w = rw (apply-zero (v +ᴿ w), apply-zero v, apply-zero w) (sym (add-zero (PolyRing 𝓡) 𝟎))
     apply-add (suc n) v w = add-step n v w (apply-add n v w)
 
     multiple-step : (n : ℕ) (c : R) (v : Poly 𝓡) → apply t n (constant c · v) ≡ constant c · apply t n v
@@ -85,14 +85,14 @@ module _ {R : Type 0} {𝓡 : CommRing R} where
     apply-null zero v h = apply-zero v
     apply-null (suc n) v h = null-step n v (h n (omega arith)) (apply-null n v (λ j l. h j (omega arith)))
 
-    pub apply-sub-multiple : (n : ℕ) (v : Poly 𝓡) (c : R) (w : Poly 𝓡) → apply t n (v + - (constant c · w)) ≡ apply t n v + - (constant c · apply t n w)
+    pub apply-sub-multiple : (n : ℕ) (v : Poly 𝓡) (c : R) (w : Poly 𝓡) → apply t n (v +ᴿ -ᴿ (constant c · w)) ≡ apply t n v +ᴿ -ᴿ (constant c · apply t n w)
     apply-sub-multiple n v c w =
-        apply-add n v (- (constant c · w)) ∙ ap (λ a. apply t n v + a) (negative ∙ ap -_ (apply-multiple n c w))
+        apply-add n v (-ᴿ (constant c · w)) ∙ ap (λ a. apply t n v +ᴿ a) (negative ∙ ap -ᴿ_ (apply-multiple n c w))
       where
-        negative : apply t n (- (constant c · w)) ≡ - apply t n (constant c · w)
+        negative : apply t n (-ᴿ (constant c · w)) ≡ -ᴿ apply t n (constant c · w)
         negative =
             neg-unique (PolyRing 𝓡)
-            (sym (apply-add n (constant c · w) (- (constant c · w))) ∙ ap (apply t n) (add-neg (PolyRing 𝓡) (constant c · w))
+            (sym (apply-add n (constant c · w) (-ᴿ (constant c · w))) ∙ ap (apply t n) (add-neg (PolyRing 𝓡) (constant c · w))
             ∙ apply-null n 𝟎 (λ j l. coef-zero 𝓡 j))
 
     pub apply-monomial : (n : ℕ) {i : ℕ} → i < n → apply t n (x^ i) ≡ t i
@@ -101,7 +101,7 @@ module _ {R : Type 0} {𝓡 : CommRing R} where
         rw (apply-suc n (x^ i)) (go (eq-or-lt-of-le l) (λ k. apply-monomial n k))
       where
         go : (suc i ≡ suc n) ⊎ (suc i < suc n) → (i < n → apply t n (x^ i) ≡ t i)
-            → apply t n (x^ i) + constant ((x^ {𝓡 = 𝓡} i) .coef n) · t n ≡ t i
+            → apply t n (x^ i) +ᴿ constant ((x^ {𝓡 = 𝓡} i) .coef n) · t n ≡ t i
         go (inl e) f = let s : i ≡ n = omega arith in
             rw (s, apply-null n (x^ n) (λ j k. coef-power-low 𝓡 n j k), (monic-pow-x n) .leading, constant-one 𝓡) (simp ring)
         go (inr k) f =
@@ -110,14 +110,14 @@ module _ {R : Type 0} {𝓡 : CommRing R} where
   -- ---- the images x^i
 
   -- v without its top term
-  monomials-step : (n : ℕ) (v low : Poly 𝓡) → low + constant (v .coef n) · x^ n ≡ v → Below n low → apply x^ n low ≡ low
+  monomials-step : (n : ℕ) (v low : Poly 𝓡) → low +ᴿ constant (v .coef n) · x^ n ≡ v → Below n low → apply x^ n low ≡ low
       → apply x^ (suc n) v ≡ v
   monomials-step n v low whole small same =
-      ap (apply x^ (suc n)) (sym whole) ∙ apply-add x^ (suc n) low (constant (v .coef n) · x^ n) ∙ ap₂ _+_ lower upper ∙ whole
+      ap (apply x^ (suc n)) (sym whole) ∙ apply-add x^ (suc n) low (constant (v .coef n) · x^ n) ∙ ap₂ _+ᴿ_ lower upper ∙ whole
     where
       lower : apply x^ (suc n) low ≡ low
       lower =
-          apply-suc x^ n low ∙ ap₂ (λ a c. a + constant c · x^ n) same (small .high n (omega arith))
+          apply-suc x^ n low ∙ ap₂ (λ a c. a +ᴿ constant c · x^ n) same (small .high n (omega arith))
           ∙ rw (constant-zero 𝓡) (simp ring)
 
       upper : apply x^ (suc n) (constant (v .coef n) · x^ n) ≡ constant (v .coef n) · x^ n
@@ -128,17 +128,17 @@ module _ {R : Type 0} {𝓡 : CommRing R} where
   pub apply-monomials : (n : ℕ) (v : Poly 𝓡) → Below n v → apply x^ n v ≡ v
   apply-monomials zero v h = apply-zero x^ v ∙ sym (below-zero h)
   apply-monomials (suc n) v h =
-      let low : Poly 𝓡 = v + - (constant (v .coef n) · x^ n) in
+      let low : Poly 𝓡 = v +ᴿ -ᴿ (constant (v .coef n) · x^ n) in
       let small : Below n low = below-top (monic-pow-x n) v h in
       monomials-step n v low (solve (PolyRing 𝓡) 2 (λ v t. v ⊖ t ⊕ t ≈ v) tt v (constant (v .coef n) · x^ n)) small
       (apply-monomials n low small)
 
   -- ---- images modulo f
 
-  pub apply-sub : (t s : ℕ → Poly 𝓡) (n : ℕ) (v : Poly 𝓡) → apply (λ i. t i + - s i) n v ≡ apply t n v + - apply s n v
-  apply-sub t s zero v = rw (apply-zero (λ i. t i + - s i) v, apply-zero t v, apply-zero s v) (simp ring)
+  pub apply-sub : (t s : ℕ → Poly 𝓡) (n : ℕ) (v : Poly 𝓡) → apply (λ i. t i +ᴿ -ᴿ s i) n v ≡ apply t n v +ᴿ -ᴿ apply s n v
+  apply-sub t s zero v = rw (apply-zero (λ i. t i +ᴿ -ᴿ s i) v, apply-zero t v, apply-zero s v) (simp ring)
   apply-sub t s (suc n) v =
-      rw (apply-suc (λ i. t i + - s i) n v, apply-suc t n v, apply-suc s n v, apply-sub t s n v)
+      rw (apply-suc (λ i. t i +ᴿ -ᴿ s i) n v, apply-suc t n v, apply-suc s n v, apply-sub t s n v)
       (solve (PolyRing 𝓡) 5 (λ a b c t s. a ⊖ b ⊕ c ⊗ (t ⊖ s) ≈ a ⊕ c ⊗ t ⊖ (b ⊕ c ⊗ s)) tt
       (apply t n v) (apply s n v) (constant (v .coef n)) (t n) (s n))
 

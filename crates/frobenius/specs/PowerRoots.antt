@@ -3,17 +3,15 @@
 -- polynomial with derivative 𝟎 is the p-th power of the polynomial of its coefficients at the multiples of p. Assumes nothing.
 use mathlib.Core.Path.{_≡_, refl, sym, _∙_, ap, ap₂}
 use mathlib.Core.Logic.{_≢_, ∥∥₁-map}
-use Prim.Native.Nat.{ℕ, zero, suc, _<_, _/_, _%_, _-_, _+_ as _+ℕ_, _*_ as _*ℕ_}
+use Prim.Native.Nat.{ℕ, zero, suc, _<_, _/_, _%_, _-_, _+_, _*_}
 use native.Mathlib.Nat.{suc-mul, zero-mul, mod-lt, mod-eq-of-lt, div-add-mod, le-mul-of-pos-right, mul-le-mul-right, pos-of-ne-zero, mul-comm}
 use native.Mathlib.Decide.{ℕ-discrete}
 use native.Mathlib.Omega.{arith}
 use Rattle.algebra.specs.Ring.{add-zero, zero-add}
 use Rattle.algebra.specs.Divisibility.{pow-of-product}
 use Rattle.algebra.specs.Residues.{Residues, zero-remainder}
-use Rattle.algebra.specs.Polynomials.{
-  Poly,
-  PolyRing,
-  _+_,
+use Rattle.algebra.specs.PolynomialRing.{
+  _+ᴿ_,
   _·_,
   𝟎,
   x,
@@ -30,102 +28,103 @@ use Rattle.algebra.specs.Polynomials.{
 use Rattle.algebra.specs.Monomials.{x^, coef-shift-below, coef-shift}
 use Rattle.algebra.specs.Degree.{Monic}
 use Rattle.algebra.specs.Fields.{Prime, prime-pos, field-cancel, residue-field}
-use Rattle.frobenius.specs.FrobeniusPowers.{_^_, power-add, power-constant}
+use Rattle.frobenius.specs.FrobeniusPowers.{_^ᴿ_, power-add, power-constant}
 use Rattle.frobenius.specs.Derivatives.{derivative, coef-derivative}
+use Rattle.algebra.specs.CoefficientLists.{ℤ[x]/, 𝓩[x]/}
 
 module _ {p : ℕ} (P : Prime p) where
   -- (h₀ + x·t)^p = h₀ + x^p·t^p
-  power-horner : (h : Poly (Residues p)) → h ^ p ≡ constant (h .coef 0) + x^ p · tail h ^ p
+  power-horner : (h : ℤ[x]/ p) → h ^ᴿ p ≡ constant (h .coef 0) +ᴿ x^ p · tail h ^ᴿ p
   power-horner h =
-      ap (λ a. a ^ p) (head-tail h)
+      ap (λ a. a ^ᴿ p) (head-tail h)
       ∙ power-add P (constant (h .coef 0)) (x · tail h)
-      ∙ ap₂ _+_ (power-constant P (h .coef 0)) (pow-of-product (PolyRing (Residues p)) x (tail h) p)
+      ∙ ap₂ _+ᴿ_ (power-constant P (h .coef 0)) (pow-of-product (𝓩[x]/ p) x (tail h) p)
 
-  power-first : (h : Poly (Residues p)) → (h ^ p) .coef 0 ≡ h .coef 0
+  power-first : (h : ℤ[x]/ p) → (h ^ᴿ p) .coef 0 ≡ h .coef 0
   power-first h =
       ap (λ a. a .coef 0) (power-horner h)
-      ∙ coef-add (constant (h .coef 0)) (x^ p · tail h ^ p) 0
-      ∙ ap₂ ((Residues p) .add) (coef-constant-zero (Residues p) (h .coef 0)) (coef-shift-below p (tail h ^ p) 0 (prime-pos P))
+      ∙ coef-add (constant (h .coef 0)) (x^ p · tail h ^ᴿ p) 0
+      ∙ ap₂ ((Residues p) .add) (coef-constant-zero (Residues p) (h .coef 0)) (coef-shift-below p (tail h ^ᴿ p) 0 (prime-pos P))
       ∙ add-zero (Residues p) (h .coef 0)
 
   -- past the constant term there is x^p·t^p alone
-  power-later : (h : Poly (Residues p)) (k : ℕ) → 0 < k → (h ^ p) .coef k ≡ (x^ p · tail h ^ p) .coef k
+  power-later : (h : ℤ[x]/ p) (k : ℕ) → 0 < k → (h ^ᴿ p) .coef k ≡ (x^ p · tail h ^ᴿ p) .coef k
   power-later h zero l = absurd (omega arith)
   power-later h (suc k) l =
       ap (λ a. a .coef (suc k)) (power-horner h)
-      ∙ coef-add (constant (h .coef 0)) (x^ p · tail h ^ p) (suc k)
-      ∙ ap (λ c. (Residues p) .add c ((x^ p · tail h ^ p) .coef (suc k))) (coef-constant-suc (Residues p) (h .coef 0) k)
-      ∙ zero-add (Residues p) ((x^ p · tail h ^ p) .coef (suc k))
+      ∙ coef-add (constant (h .coef 0)) (x^ p · tail h ^ᴿ p) (suc k)
+      ∙ ap (λ c. (Residues p) .add c ((x^ p · tail h ^ᴿ p) .coef (suc k))) (coef-constant-suc (Residues p) (h .coef 0) k)
+      ∙ zero-add (Residues p) ((x^ p · tail h ^ᴿ p) .coef (suc k))
 
-  power-next : (h : Poly (Residues p)) (k : ℕ) → (h ^ p) .coef (p +ℕ k) ≡ (tail h ^ p) .coef k
+  power-next : (h : ℤ[x]/ p) (k : ℕ) → (h ^ᴿ p) .coef (p + k) ≡ (tail h ^ᴿ p) .coef k
   power-next h k =
-      power-later h (p +ℕ k) (omega (arith, prime-pos P)) ∙ coef-shift p (tail h ^ p) (p +ℕ k) (omega arith)
-      ∙ ap ((tail h ^ p) .coef) (let e : p +ℕ k - p ≡ k = omega arith in e)
+      power-later h (p + k) (omega (arith, prime-pos P)) ∙ coef-shift p (tail h ^ᴿ p) (p + k) (omega arith)
+      ∙ ap ((tail h ^ᴿ p) .coef) (let e : p + k - p ≡ k = omega arith in e)
 
   -- ---- the coefficients of a p-th power
 
-  power-at : (i : ℕ) (h : Poly (Residues p)) → (h ^ p) .coef (i *ℕ p) ≡ h .coef i
-  power-at zero h = ap ((h ^ p) .coef) (zero-mul p) ∙ power-first h
+  power-at : (i : ℕ) (h : ℤ[x]/ p) → (h ^ᴿ p) .coef (i * p) ≡ h .coef i
+  power-at zero h = ap ((h ^ᴿ p) .coef) (zero-mul p) ∙ power-first h
   power-at (suc i) h =
-      ap ((h ^ p) .coef) (let e : suc i *ℕ p ≡ p +ℕ i *ℕ p = omega (arith, suc-mul i p) in e)
-      ∙ power-next h (i *ℕ p) ∙ power-at i (tail h) ∙ coef-tail h i
+      ap ((h ^ᴿ p) .coef) (let e : suc i * p ≡ p + i * p = omega (arith, suc-mul i p) in e)
+      ∙ power-next h (i * p) ∙ power-at i (tail h) ∙ coef-tail h i
 
-  power-between : (i r : ℕ) (h : Poly (Residues p)) → 0 < r → r < p → (h ^ p) .coef (i *ℕ p +ℕ r) ≡ (Residues p) .𝟘
+  power-between : (i r : ℕ) (h : ℤ[x]/ p) → 0 < r → r < p → (h ^ᴿ p) .coef (i * p + r) ≡ (Residues p) .𝟘
   power-between zero r h pos small =
-      ap ((h ^ p) .coef) (let e : zero *ℕ p +ℕ r ≡ r = omega (arith, zero-mul p) in e)
-      ∙ power-later h r pos ∙ coef-shift-below p (tail h ^ p) r small
+      ap ((h ^ᴿ p) .coef) (let e : zero * p + r ≡ r = omega (arith, zero-mul p) in e)
+      ∙ power-later h r pos ∙ coef-shift-below p (tail h ^ᴿ p) r small
   power-between (suc i) r h pos small =
-      ap ((h ^ p) .coef) (let e : suc i *ℕ p +ℕ r ≡ p +ℕ (i *ℕ p +ℕ r) = omega (arith, suc-mul i p) in e)
-      ∙ power-next h (i *ℕ p +ℕ r) ∙ power-between i r (tail h) pos small
+      ap ((h ^ᴿ p) .coef) (let e : suc i * p + r ≡ p + (i * p + r) = omega (arith, suc-mul i p) in e)
+      ∙ power-next h (i * p + r) ∙ power-between i r (tail h) pos small
 
-  whole : (k : ℕ) → k ≡ k / p *ℕ p +ℕ k % p
+  whole : (k : ℕ) → k ≡ k / p * p + k % p
   whole k = omega (arith, div-add-mod k p, mul-comm p (k / p))
 
-  power-off : (h : Poly (Residues p)) (k : ℕ) → k % p ≢ 0 → (h ^ p) .coef k ≡ (Residues p) .𝟘
-  power-off h k n = ap ((h ^ p) .coef) (whole k) ∙ power-between (k / p) (k % p) h (pos-of-ne-zero n) (mod-lt k (prime-pos P))
+  power-off : (h : ℤ[x]/ p) (k : ℕ) → k % p ≢ 0 → (h ^ᴿ p) .coef k ≡ (Residues p) .𝟘
+  power-off h k n = ap ((h ^ᴿ p) .coef) (whole k) ∙ power-between (k / p) (k % p) h (pos-of-ne-zero n) (mod-lt k (prime-pos P))
 
-  pub power-injective : (g h : Poly (Residues p)) → g ^ p ≡ h ^ p → g ≡ h
-  power-injective g h e = poly-ext (λ i. sym (power-at i g) ∙ ap (λ a. a .coef (i *ℕ p)) e ∙ power-at i h)
+  pub power-injective : (g h : ℤ[x]/ p) → g ^ᴿ p ≡ h ^ᴿ p → g ≡ h
+  power-injective g h e = poly-ext (λ i. sym (power-at i g) ∙ ap (λ a. a .coef (i * p)) e ∙ power-at i h)
 
   -- ---- polynomials with derivative 𝟎
 
   -- k times a coefficient is 𝟘, and k is not
-  coefficient-off : (a : Poly (Residues p)) → derivative a ≡ 𝟎 → (k : ℕ) → k % p ≢ 0 → a .coef k ≡ (Residues p) .𝟘
+  coefficient-off : (a : ℤ[x]/ p) → derivative a ≡ 𝟎 → (k : ℕ) → k % p ≢ 0 → a .coef k ≡ (Residues p) .𝟘
   coefficient-off a e zero n = absurd (n (mod-eq-of-lt (prime-pos P)))
   coefficient-off a e (suc k) n =
       field-cancel (residue-field p P) (λ z. n (zero-remainder p (prime-pos P) (suc k) z))
       (sym (coef-derivative a k) ∙ ap (λ b. b .coef k) e ∙ coef-zero (Residues p) k)
 
   -- a is the p-th power of h, which has the coefficients of a at the multiples of p
-  pub power-of-root : (a h : Poly (Residues p)) → derivative a ≡ 𝟎 → ((i : ℕ) → h .coef i ≡ a .coef (i *ℕ p)) → h ^ p ≡ a
+  pub power-of-root : (a h : ℤ[x]/ p) → derivative a ≡ 𝟎 → ((i : ℕ) → h .coef i ≡ a .coef (i * p)) → h ^ᴿ p ≡ a
   power-of-root a h e same = poly-ext (λ k. at k (ℕ-discrete (k % p) 0))
     where
-      at : (k : ℕ) → Dec (k % p ≡ 0) → (h ^ p) .coef k ≡ a .coef k
-      at k (yes z) = let s : k ≡ k / p *ℕ p = omega (arith, whole k) in
-          ap ((h ^ p) .coef) s ∙ power-at (k / p) h ∙ same (k / p) ∙ ap (a .coef) (sym s)
+      at : (k : ℕ) → Dec (k % p ≡ 0) → (h ^ᴿ p) .coef k ≡ a .coef k
+      at k (yes z) = let s : k ≡ k / p * p = omega (arith, whole k) in
+          ap ((h ^ᴿ p) .coef) s ∙ power-at (k / p) h ∙ same (k / p) ∙ ap (a .coef) (sym s)
       at k (no n) = power-off h k n ∙ sym (coefficient-off a e k n)
 
-  pub root-exists : (a : Poly (Residues p)) → derivative a ≡ 𝟎 → (h : Poly (Residues p)) × (h ^ p ≡ a)
+  pub root-exists : (a : ℤ[x]/ p) → derivative a ≡ 𝟎 → (h : ℤ[x]/ p) × (h ^ᴿ p ≡ a)
   root-exists a e = (root, power-of-root a root e (λ i. refl))
     where
-      root : Poly (Residues p)
+      root : ℤ[x]/ p
       root = record {
-        coef = λ i. a .coef (i *ℕ p);
-        bounded = ∥∥₁-map (a .bounded) (λ b. (b .0, λ i l. b .1 (i *ℕ p) (omega (arith, le-mul-of-pos-right i (prime-pos P)))));
+        coef = λ i. a .coef (i * p);
+        bounded = ∥∥₁-map (a .bounded) (λ b. (b .0, λ i l. b .1 (i * p) (omega (arith, le-mul-of-pos-right i (prime-pos P)))));
       }
 
-  pub degree-multiple : {a : Poly (Residues p)} {e : ℕ} → Monic e a → derivative a ≡ 𝟎 → e / p *ℕ p ≡ e
+  pub degree-multiple : {a : ℤ[x]/ p} {e : ℕ} → Monic e a → derivative a ≡ 𝟎 → e / p * p ≡ e
   degree-multiple {a} {e} m z = at (ℕ-discrete (e % p) 0)
     where
-      at : Dec (e % p ≡ 0) → e / p *ℕ p ≡ e
+      at : Dec (e % p ≡ 0) → e / p * p ≡ e
       at (yes l) = omega (arith, whole e)
-      at (no n) = absurd (residue-field p P .one-ne-zero (sym (m .leading) ∙ coefficient-off a z e n))
+      at (no n) = absurd (residue-field p P .oneNeZero (sym (m .leading) ∙ coefficient-off a z e n))
 
-  pub root-monic : {a h : Poly (Residues p)} {e i : ℕ} → h ^ p ≡ a → Monic e a → i *ℕ p ≡ e → Monic i h
+  pub root-monic : {a h : ℤ[x]/ p} {e i : ℕ} → h ^ᴿ p ≡ a → Monic e a → i * p ≡ e → Monic i h
   root-monic {a} {h} {e} {i} power m s = record {
     leading = at i ∙ ap (a .coef) s ∙ m .leading;
-    below = record { high = λ k l. at k ∙ m .below .high (k *ℕ p) (omega (arith, mul-le-mul-right p l, prime-pos P, suc-mul i p)) };
+    below = record { high = λ k l. at k ∙ m .below .high (k * p) (omega (arith, mul-le-mul-right p l, prime-pos P, suc-mul i p)) };
   }
     where
-      at : (k : ℕ) → h .coef k ≡ a .coef (k *ℕ p)
-      at k = sym (power-at k h) ∙ ap (λ b. b .coef (k *ℕ p)) power
+      at : (k : ℕ) → h .coef k ≡ a .coef (k * p)
+      at k = sym (power-at k h) ∙ ap (λ b. b .coef (k * p)) power

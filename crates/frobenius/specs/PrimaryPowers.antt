@@ -2,13 +2,12 @@
 -- Proves that m times the degree of G is that of Q, and that a monic polynomial over ℤ/p with no splitting element is such a power. Assumes nothing.
 use mathlib.Core.Path.{_≡_, sym, _∙_, ap}
 use mathlib.Core.Logic.{_≢_}
-use Prim.Native.Nat.{ℕ, zero, suc, _≤_, _+_ as _+ℕ_, _*_ as _*ℕ_}
+use Prim.Native.Nat.{ℕ, zero, suc, _≤_, _+_, _*_}
 use native.Mathlib.Nat.{pos-of-ne-zero, mul-pos}
 use native.Mathlib.Omega.{arith}
 use Rattle.algebra.specs.Ring.{CommRing, mul-one}
 use Rattle.algebra.specs.Divisibility.{Coprime, pow, pow-zero, coprime-sym, coprime-pow}
-use Rattle.algebra.specs.Residues.{Residues}
-use Rattle.algebra.specs.Polynomials.{Poly, PolyRing, _·_}
+use Rattle.algebra.specs.PolynomialRing.{Poly, PolyRing, _·_}
 use Rattle.algebra.specs.Degree.{Monic, monic-zero, monic-pow}
 use Rattle.algebra.specs.Leading.{monic-cofactor}
 use Rattle.algebra.specs.Fields.{Prime, residue-field, residue-discrete}
@@ -17,6 +16,7 @@ use Rattle.factorisation.specs.Irreducible.{Irreducible, irreducible-prime}
 use Rattle.factorisation.specs.Multiplicity.{Multiplicity, rest-coprime, multiplicity}
 use Rattle.factorisation.specs.IrreducibleDivisors.{IrreducibleDivisor, irreducible-divisor}
 use Rattle.frobenius.specs.Unsplit.{Unsplit, unsplit-indivisible}
+use Rattle.algebra.specs.CoefficientLists.{ℤ[x]/, 𝓩[x]/}
 
 module _ {R : Type 0} {𝓡 : CommRing R} where
   -- Q is a power of one irreducible polynomial
@@ -28,50 +28,50 @@ module _ {R : Type 0} {𝓡 : CommRing R} where
     pub multiplies : pow (PolyRing 𝓡) G m ≡ Q
 
   -- m·deg G = deg Q
-  pub primary-degree : 𝓡 .𝟙 ≢ 𝓡 .𝟘 → {d : ℕ} {Q : Poly 𝓡} → Monic d Q → (S : PrimaryPower Q) → S .m *ℕ S .irreducible .degree ≡ d
+  pub primary-degree : 𝓡 .𝟙 ≢ 𝓡 .𝟘 → {d : ℕ} {Q : Poly 𝓡} → Monic d Q → (S : PrimaryPower Q) → S .m * S .irreducible .degree ≡ d
   primary-degree nontrivial n S = monic-degree nontrivial (rw (S .multiplies) at (monic-pow (S .irreducible .monic) (S .m))) n
 
-module _ {p : ℕ} (P : Prime p) {d : ℕ} {Q : Poly (Residues p)} (positive : 1 ≤ d) (monic : Monic d Q) (unsplit : Unsplit p d Q) where
-  module _ (t : IrreducibleDivisor Q) (M : Multiplicity (PolyRing (Residues p)) (t .G) Q) where
+module _ {p : ℕ} (P : Prime p) {d : ℕ} {Q : ℤ[x]/ p} (positive : 1 ≤ d) (monic : Monic d Q) (unsplit : Unsplit p d Q) where
+  module _ (t : IrreducibleDivisor Q) (M : Multiplicity (𝓩[x]/ p) (t .G) Q) where
     multiplicity-positive : 1 ≤ M .k
     multiplicity-positive = pos-of-ne-zero (λ e. M .stop (rw (sym (M .law) ∙ none e) at (t .divides)))
       where
-        none : M .k ≡ 0 → M .w · pow (PolyRing (Residues p)) (t .G) (M .k) ≡ M .w
+        none : M .k ≡ 0 → M .w · pow (𝓩[x]/ p) (t .G) (M .k) ≡ M .w
         none e =
-            ap (λ k. M .w · pow (PolyRing (Residues p)) (t .G) k) e ∙ ap (λ a. M .w · a) (pow-zero (PolyRing (Residues p)) (t .G))
-            ∙ mul-one (PolyRing (Residues p)) (M .w)
+            ap (λ k. M .w · pow (𝓩[x]/ p) (t .G) k) e ∙ ap (λ a. M .w · a) (pow-zero (𝓩[x]/ p) (t .G))
+            ∙ mul-one (𝓩[x]/ p) (M .w)
 
-    coprime : Coprime (PolyRing (Residues p)) (M .w) (pow (PolyRing (Residues p)) (t .G) (M .k))
+    coprime : Coprime (𝓩[x]/ p) (M .w) (pow (𝓩[x]/ p) (t .G) (M .k))
     coprime =
-        coprime-pow (PolyRing (Residues p)) (M .k)
-        (coprime-sym (PolyRing (Residues p)) (rest-coprime (irreducible-prime (residue-field p P) (t .irreducible)) M))
+        coprime-pow (𝓩[x]/ p) (M .k)
+        (coprime-sym (𝓩[x]/ p) (rest-coprime (irreducible-prime (residue-field p P) (t .irreducible)) M))
 
     -- Q = w·G^k, and w is 𝟏, since it is coprime to G^k
     power-of-divisor : PrimaryPower Q
-    power-of-divisor = go (monic-cofactor (residue-discrete p) (residue-field p P .one-ne-zero) {d = d} (M .w) power monic-power (rw (M .law) monic))
+    power-of-divisor = go (monic-cofactor (residue-discrete p) (residue-field p P .oneNeZero) {d = d} (M .w) power monic-power (rw (M .law) monic))
       where
-        power : Poly (Residues p)
-        power = pow (PolyRing (Residues p)) (t .G) (M .k)
+        power : ℤ[x]/ p
+        power = pow (𝓩[x]/ p) (t .G) (M .k)
 
-        monic-power : Monic (M .k *ℕ t .irreducible .degree) power
+        monic-power : Monic (M .k * t .irreducible .degree) power
         monic-power = monic-pow (t .irreducible .monic) (M .k)
 
-        go : (j : ℕ) × Monic j (M .w) × (j +ℕ M .k *ℕ t .irreducible .degree ≡ d) → PrimaryPower Q
+        go : (j : ℕ) × Monic j (M .w) × (j + M .k * t .irreducible .degree ≡ d) → PrimaryPower Q
         go (zero, mw, s) = record {
           G = t .G;
           m = M .k;
           irreducible = t .irreducible;
           positive = multiplicity-positive;
-          multiplies = sym ((PolyRing (Residues p)) .*-one power) ∙ ap (λ a. a · power) (sym (monic-zero mw)) ∙ M .law;
+          multiplies = sym ((𝓩[x]/ p) .*-one power) ∙ ap (λ a. a · power) (sym (monic-zero mw)) ∙ M .law;
         }
         go (suc j, mw, s) =
             absurd (unsplit-indivisible P positive monic unsplit (record {
               i = suc j;
-              j = M .k *ℕ t .irreducible .degree;
-              monic-a = mw;
-              monic-b = monic-power;
-              positive-a = omega arith;
-              positive-b = mul-pos multiplicity-positive (t .irreducible .positive);
+              j = M .k * t .irreducible .degree;
+              monicA = mw;
+              monicB = monic-power;
+              positiveA = omega arith;
+              positiveB = mul-pos multiplicity-positive (t .irreducible .positive);
               coprime = coprime;
               multiplies = M .law;
             }))
@@ -80,4 +80,4 @@ module _ {p : ℕ} (P : Prime p) {d : ℕ} {Q : Poly (Residues p)} (positive : 1
   unsplit-power =
       let t = irreducible-divisor P positive monic in
       power-of-divisor t
-      (multiplicity (residue-discrete p) (t .irreducible .positive) (t .irreducible .monic) Q (monic-nonzero (residue-field p P .one-ne-zero) monic))
+      (multiplicity (residue-discrete p) (t .irreducible .positive) (t .irreducible .monic) Q (monic-nonzero (residue-field p P .oneNeZero) monic))

@@ -10,21 +10,22 @@ use native.Mathlib.Nat.{mod-eq-of-lt}
 use native.Mathlib.Omega.{arith}
 use lib.ListN.{length, length-map}
 use Rattle.specification.specs.Lists.{upFrom}
+use Rattle.algebra.specs.CoefficientLists.{ℤ[x]/, 𝓩[x]/}
 use Rattle.algebra.specs.Ring.{CommRing, sub-self, eq-of-sub}
 use Rattle.algebra.specs.Divisibility.{_∣_, unit-cancel, product, product-nil, product-cons}
 use Rattle.algebra.specs.Residues.{ℤ/, residue, Residues, residue-value, value-below, same-remainder}
-use Rattle.algebra.specs.Polynomials.{Poly, PolyRing, _+_, _·_, -_, x, 𝟎, constant, constant-neg, constant-add, constant-unit}
+use Rattle.algebra.specs.PolynomialRing.{Poly, PolyRing, _+ᴿ_, _·_, -ᴿ_, x, 𝟎, constant, constant-neg, constant-add, constant-unit}
 use Rattle.algebra.specs.Monomials.{x^}
 use Rattle.algebra.specs.Degree.{Monic, below-up, below-neg, monic-zero, monic-add, monic-x, monic-one, monic-pow-x}
 use Rattle.algebra.specs.Leading.{monic-cofactor, poly-discrete}
-use Rattle.algebra.specs.ListLaws.{upFrom-length, upFrom-member, upFrom-has}
+use Rattle.lists.specs.NumbersFrom.{upFrom-length, upFrom-member, upFrom-has}
 use Rattle.algebra.specs.Fields.{Field, Prime, prime-pos, residue-field, residue-discrete}
 use Rattle.algebra.specs.Homomorphisms.{keeps-neg, keeps-pow, keeps-product}
-use Rattle.factorisation.specs.Members.{_∈_, All, all-tail, all-map}
-use Rattle.factorisation.specs.InOrder.{InOrder, in-order-map, in-order-by, upFrom-in-order}
+use Rattle.lists.specs.Members.{_∈_, All, all-tail, all-map}
+use Rattle.lists.specs.InOrder.{InOrder, in-order-map, in-order-by, upFrom-in-order}
 use Rattle.factorisation.specs.MonicDivisors.{monic-nonzero}
 use Rattle.frobenius.specs.Evaluation.{linear, monic-linear, evaluate, evaluation, evaluate-x, evaluate-constant, root-divides}
-use Rattle.frobenius.specs.FrobeniusPowers.{_^_, power-constant}
+use Rattle.frobenius.specs.FrobeniusPowers.{_^ᴿ_, power-constant}
 
 -- c and d differ by a unit
 abbrev pub Apart : {R : Type 0} → CommRing R → R → R → Type 0
@@ -35,25 +36,25 @@ pub different-apart : {R : Type 0} {𝓡 : CommRing R} → Field 𝓡 → (c d :
 different-apart {𝓡 = 𝓡} field c d n =
     let (u, e) = field .inverse (𝓡 .add d (𝓡 .neg c)) (λ z. n (sym (eq-of-sub 𝓡 z))) in (
       constant u,
-      ap (λ a. constant u · (constant d + a)) (sym (constant-neg c)) ∙ ap (λ a. constant u · a) (sym (constant-add d (𝓡 .neg c)))
+      ap (λ a. constant u · (constant d +ᴿ a)) (sym (constant-neg c)) ∙ ap (λ a. constant u · a) (sym (constant-add d (𝓡 .neg c)))
           ∙ constant-unit 𝓡 (𝓡 .*-comm u (𝓡 .add d (𝓡 .neg c)) ∙ e),
     )
 
 module _ {R : Type 0} (𝓡 : CommRing R) (decide : Discrete R) where
-  infixl 70 _*_
+  infixl 70 _*ᴿ_
   infixl 60 _∔_
-  open CommRing 𝓡 using (add as _∔_, mul as _*_, neg, 𝟘, 𝟙)
+  open CommRing 𝓡 using (add as _∔_, mul as _*ᴿ_, neg, 𝟘, 𝟙)
 
   evaluate-linear : (y c : R) → evaluate 𝓡 decide y (linear c) ≡ y ∔ neg c
   evaluate-linear y c =
-      evaluation 𝓡 decide y .keeps-add x (- constant c)
+      evaluation 𝓡 decide y .keepsAdd x (-ᴿ constant c)
       ∙ ap₂ _∔_ (evaluate-x 𝓡 decide y) (keeps-neg (evaluation 𝓡 decide y) (constant c) ∙ ap neg (evaluate-constant 𝓡 decide y c))
 
   -- a root of q·(x − c) that is apart from c is one of q
   other-root : (q : Poly 𝓡) (c d : R) → Apart 𝓡 c d → evaluate 𝓡 decide d (q · linear c) ≡ 𝟘 → evaluate 𝓡 decide d q ≡ 𝟘
   other-root q c d (u, unit) e =
       unit-cancel 𝓡 unit
-      (sym (evaluation 𝓡 decide d .keeps-mul q (linear c) ∙ ap (λ b. evaluate 𝓡 decide d q * b) (evaluate-linear d c)) ∙ e)
+      (sym (evaluation 𝓡 decide d .keepsMul q (linear c) ∙ ap (λ b. evaluate 𝓡 decide d q *ᴿ b) (evaluate-linear d c)) ∙ e)
 
   linear-factors : 𝟙 ≢ 𝟘 → (l : List R) (f : Poly 𝓡) → Monic (length l) f → All (λ c. evaluate 𝓡 decide c f ≡ 𝟘) l → InOrder (Apart 𝓡) l
       → f ≡ product (PolyRing 𝓡) (map linear l)
@@ -103,38 +104,38 @@ module _ {p : ℕ} (P : Prime p) where
   residues-length = length-map (upFrom 0 p) (residue p) ∙ upFrom-length 0 p
 
   -- y^p − y over (ℤ/p)[x], and its values
-  decide : Discrete (Poly (Residues p))
+  decide : Discrete (ℤ[x]/ p)
   decide = poly-discrete (residue-discrete p)
 
-  difference : Poly (PolyRing (Residues p))
-  difference = x^ p + - x
+  difference : Poly (𝓩[x]/ p)
+  difference = x^ p +ᴿ -ᴿ x
 
   monic-difference : Monic p difference
   unfolding difference
   monic-difference = monic-add (monic-pow-x p) (below-neg (below-up (P .large) (monic-x .below)))
 
-  value : (v : Poly (Residues p)) → evaluate (PolyRing (Residues p)) decide v difference ≡ v ^ p + - v
+  value : (v : ℤ[x]/ p) → evaluate (𝓩[x]/ p) decide v difference ≡ v ^ᴿ p +ᴿ -ᴿ v
   unfolding difference
   value v =
-      let h = evaluation (PolyRing (Residues p)) decide v in
-      let e : evaluate (PolyRing (Residues p)) decide v x ≡ v = evaluate-x (PolyRing (Residues p)) decide v in
-      h .keeps-add (x^ p) (- x) ∙ ap₂ _+_ (keeps-pow h x p ∙ ap (λ a. a ^ p) e) (keeps-neg h x ∙ ap -_ e)
+      let h = evaluation (𝓩[x]/ p) decide v in
+      let e : evaluate (𝓩[x]/ p) decide v x ≡ v = evaluate-x (𝓩[x]/ p) decide v in
+      h .keepsAdd (x^ p) (-ᴿ x) ∙ ap₂ _+ᴿ_ (keeps-pow h x p ∙ ap (λ a. a ^ᴿ p) e) (keeps-neg h x ∙ ap -ᴿ_ e)
 
-  factors : difference ≡ product (PolyRing (PolyRing (Residues p))) (map linear (map constant (residues p)))
+  factors : difference ≡ product (PolyRing (𝓩[x]/ p)) (map linear (map constant (residues p)))
   factors =
-      linear-factors (PolyRing (Residues p)) decide (monic-nonzero (residue-field p P .one-ne-zero) monic-one) (map constant (residues p)) difference
+      linear-factors (𝓩[x]/ p) decide (monic-nonzero (residue-field p P .oneNeZero) monic-one) (map constant (residues p)) difference
       (rw (length-map (residues p) (constant {𝓡 = Residues p}) ∙ residues-length) monic-difference)
-      (all-map (λ a. evaluate (PolyRing (Residues p)) decide a difference ≡ 𝟎) constant (residues p)
-      (λ c i. value (constant c) ∙ sub-self (PolyRing (Residues p)) (power-constant P c)))
-      (in-order-map (λ c d. c ≢ d) (Apart (PolyRing (Residues p))) constant (residues p) (different-apart (residue-field p P)) residues-different)
+      (all-map (λ a. evaluate (𝓩[x]/ p) decide a difference ≡ 𝟎) constant (residues p)
+      (λ c i. value (constant c) ∙ sub-self (𝓩[x]/ p) (power-constant P c)))
+      (in-order-map (λ c d. c ≢ d) (Apart (𝓩[x]/ p)) constant (residues p) (different-apart (residue-field p P)) residues-different)
 
-  pub power-product : (v : Poly (Residues p))
-      → v ^ p + - v ≡ product (PolyRing (Residues p)) (map (λ c. v + - constant c) (residues p))
+  pub power-product : (v : ℤ[x]/ p)
+      → v ^ᴿ p +ᴿ -ᴿ v ≡ product (𝓩[x]/ p) (map (λ c. v +ᴿ -ᴿ constant c) (residues p))
   power-product v =
-      sym (value v) ∙ ap at factors ∙ keeps-product (evaluation (PolyRing (Residues p)) decide v) (map linear (map constant (residues p)))
-      ∙ ap (product (PolyRing (Residues p)))
+      sym (value v) ∙ ap at factors ∙ keeps-product (evaluation (𝓩[x]/ p) decide v) (map linear (map constant (residues p)))
+      ∙ ap (product (𝓩[x]/ p))
       (ap (map at) (map-map linear constant (residues p)) ∙ map-map at (λ c. linear (constant c)) (residues p)
-      ∙ ap (λ f. map f (residues p)) (fun-ext (λ c. evaluate-linear (PolyRing (Residues p)) decide v (constant c))))
+      ∙ ap (λ f. map f (residues p)) (fun-ext (λ c. evaluate-linear (𝓩[x]/ p) decide v (constant c))))
     where
-      at : Poly (PolyRing (Residues p)) → Poly (Residues p)
-      at = evaluate (PolyRing (Residues p)) decide v
+      at : Poly (𝓩[x]/ p) → ℤ[x]/ p
+      at = evaluate (𝓩[x]/ p) decide v

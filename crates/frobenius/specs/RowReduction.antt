@@ -1,7 +1,6 @@
 -- Reduction by rows that are images of a linear map: the invariant `Stage` of the rows, and `Reducing` of the reduction of the image of x^i by them,
 -- which goes from the highest slot down and does to a preimage what it does to the image.
--- Proves that both hold at the start, and that the latter stays where a slot is gone through, or slots at which no term is left are left out.
--- Assumes nothing.
+-- Proves that both hold at the start, and that the latter stays where a slot is done, or slots with no term are left out. Assumes nothing.
 use mathlib.Core.Path.{_≡_, sym, _∙_, ap, ap₂}
 use mathlib.Core.Logic.{_⊎_, inl, inr, ⊎-elim}
 use Prim.Native.Nat.{ℕ, suc, _<_, _≤_}
@@ -10,7 +9,7 @@ use native.Mathlib.Omega.{arith}
 use Rattle.algebra.specs.Numbers.{lt-or-le}
 use Rattle.algebra.specs.Ring.{CommRing, ring}
 use Rattle.algebra.specs.Identities.{_⊖_, _≈_, solve}
-use Rattle.algebra.specs.Polynomials.{Poly, PolyRing, _+_, _·_, -_, 𝟎, constant, poly-ext, coef-zero}
+use Rattle.algebra.specs.PolynomialRing.{Poly, PolyRing, _+ᴿ_, _·_, -ᴿ_, 𝟎, constant, poly-ext, coef-zero}
 use Rattle.algebra.specs.Monomials.{x^, coef-power-low}
 use Rattle.algebra.specs.Degree.{Below, Monic, below-𝟎, below-neg, below-constant-mul, monic-add, monic-pow-x}
 use Rattle.frobenius.specs.LinearMaps.{apply, apply-null, apply-sub-multiple, apply-monomial}
@@ -34,7 +33,7 @@ module _ {R : Type 0} {𝓡 : CommRing R} where
 
     -- u and w are what the image of x^i and x^i have become, reduced by the slots from k on
     pub record Reducing (r : ℕ → Poly 𝓡) (i k : ℕ) (u w : Poly 𝓡) : Type 0 where
-      pub back : (y : Poly 𝓡) → Span r k (u + - y) → Span r n (t i + - y)
+      pub back : (y : Poly 𝓡) → Span r k (u +ᴿ -ᴿ y) → Span r n (t i +ᴿ -ᴿ y)
       pub clear : (j : ℕ) → k ≤ j → j < n → Clear r u j
       pub image : apply t m w ≡ u
       pub monic : Monic i w
@@ -81,7 +80,7 @@ module _ {R : Type 0} {𝓡 : CommRing R} where
         base = λ j l. coef-less w (u .coef k) (s k) j ∙ rw (D .base j l, S .preimage k .base j l) (simp ring);
       }
         where
-          swap : (y : Poly 𝓡) → less (u + - y) (u .coef k) (r k) ≡ less u (u .coef k) (r k) + - y
+          swap : (y : Poly 𝓡) → less (u +ᴿ -ᴿ y) (u .coef k) (r k) ≡ less u (u .coef k) (r k) +ᴿ -ᴿ y
           swap y = solve (PolyRing 𝓡) 3 (λ u y a. u ⊖ y ⊖ a ≈ u ⊖ a ⊖ y) tt u y (constant (u .coef k) · r k)
 
           above : (j : ℕ) → k < j → Slot r k → (less u (u .coef k) (r k)) .coef j ≡ u .coef j
@@ -95,7 +94,7 @@ module _ {R : Type 0} {𝓡 : CommRing R} where
       -- where no term is left from k on, nothing is left to take off there
       pub reducing-down : {k l : ℕ} {u w : Poly 𝓡} → k ≤ l → Below k u → Reducing r i l u w → Reducing r i k u w
       reducing-down {k} {l} {u} h small D = record {
-        back = λ y g. D .back y (span-up r l k (u + - y) h g);
+        back = λ y g. D .back y (span-up r l k (u +ᴿ -ᴿ y) h g);
         clear = λ j g f m. small .high j g;
         image = D .image;
         monic = D .monic;

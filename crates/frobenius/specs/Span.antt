@@ -9,12 +9,12 @@ use native.Mathlib.Decide.{ℕ-discrete}
 use native.Mathlib.Omega.{arith}
 use Rattle.algebra.specs.Ring.{CommRing, ring, mul-zero, neg-zero, neg-neg}
 use Rattle.algebra.specs.Identities.{con, _⊕_, _⊖_, _⊗_, _≈_, solve}
-use Rattle.algebra.specs.Polynomials.{
+use Rattle.algebra.specs.PolynomialRing.{
   Poly,
   PolyRing,
-  _+_,
+  _+ᴿ_,
   _·_,
-  -_,
+  -ᴿ_,
   𝟎,
   constant,
   coef-add,
@@ -29,14 +29,14 @@ use Rattle.algebra.specs.Degree.{Below, Monic, below-𝟎, below-up, below-add,
 
 module _ {R : Type 0} {𝓡 : CommRing R} where
   infixl 60 _∔_
-  infixl 70 _*_
-  open CommRing 𝓡 using (add as _∔_, mul as _*_, neg, 𝟘, 𝟙)
+  infixl 70 _*ᴿ_
+  open CommRing 𝓡 using (add as _∔_, mul as _*ᴿ_, neg, 𝟘, 𝟙)
 
   -- y − c·a
   abbrev pub less : Poly 𝓡 → R → Poly 𝓡 → Poly 𝓡
-  less y c a = y + - (constant c · a)
+  less y c a = y +ᴿ -ᴿ (constant c · a)
 
-  pub coef-less : (y : Poly 𝓡) (c : R) (a : Poly 𝓡) (k : ℕ) → (less y c a) .coef k ≡ y .coef k ∔ neg (c * a .coef k)
+  pub coef-less : (y : Poly 𝓡) (c : R) (a : Poly 𝓡) (k : ℕ) → (less y c a) .coef k ≡ y .coef k ∔ neg (c *ᴿ a .coef k)
   coef-less y c a k = simp (coef-add, coef-neg, coef-constant-mul)
 
   pub less-𝟎 : (y : Poly 𝓡) (c : R) → less y c 𝟎 ≡ y
@@ -72,12 +72,12 @@ module _ {R : Type 0} {𝓡 : CommRing R} where
         go (inl e) f = rw e at h
         go (inr m) f = (𝟘, rw (less-𝟘 y (r n)) (f (omega arith)))
 
-    pub span-add : (n : ℕ) (y z : Poly 𝓡) → Span r n y → Span r n z → Span r n (y + z)
+    pub span-add : (n : ℕ) (y z : Poly 𝓡) → Span r n y → Span r n z → Span r n (y +ᴿ z)
     unfolding Span
-    span-add zero y z e f = ap₂ _+_ e f ∙ (PolyRing 𝓡) .+-zero 𝟎
+    span-add zero y z e f = ap₂ _+ᴿ_ e f ∙ (PolyRing 𝓡) .+-zero 𝟎
     span-add (suc n) y z (c, h) (d, k) = (c ∔ d, rw step (span-add n (less y c (r n)) (less z d (r n)) h k))
       where
-        step : less (y + z) (c ∔ d) (r n) ≡ less y c (r n) + less z d (r n)
+        step : less (y +ᴿ z) (c ∔ d) (r n) ≡ less y c (r n) +ᴿ less z d (r n)
         step =
             rw (constant-add c d)
             (solve (PolyRing 𝓡) 5 (λ y z c d r. y ⊕ z ⊖ (c ⊕ d) ⊗ r ≈ y ⊖ c ⊗ r ⊕ (z ⊖ d ⊗ r)) tt y z (constant c) (constant d) (r n))
@@ -85,9 +85,9 @@ module _ {R : Type 0} {𝓡 : CommRing R} where
     pub span-multiple : (n : ℕ) (s : R) (y : Poly 𝓡) → Span r n y → Span r n (constant s · y)
     unfolding Span
     span-multiple zero s y e = ap (λ a. constant s · a) e ∙ mul-zero (PolyRing 𝓡) (constant s)
-    span-multiple (suc n) s y (c, h) = (s * c, rw step (span-multiple n s (less y c (r n)) h))
+    span-multiple (suc n) s y (c, h) = (s *ᴿ c, rw step (span-multiple n s (less y c (r n)) h))
       where
-        step : less (constant s · y) (s * c) (r n) ≡ constant s · less y c (r n)
+        step : less (constant s · y) (s *ᴿ c) (r n) ≡ constant s · less y c (r n)
         step =
             rw (constant-mul s c)
             (solve (PolyRing 𝓡) 4 (λ s y c r. s ⊗ y ⊖ s ⊗ c ⊗ r ≈ s ⊗ (y ⊖ c ⊗ r)) tt (constant s) y (constant c) (r n))

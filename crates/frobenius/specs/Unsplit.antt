@@ -9,7 +9,7 @@ use Rattle.algebra.specs.Ring.{CommRing, zero-mul, add-neg, eq-of-sub, linear1}
 use Rattle.algebra.specs.Identities.{con, _⊕_, _⊖_, _⊗_, ⊝_, _≈_, solve}
 use Rattle.algebra.specs.Divisibility.{_∣_, Coprime, pow, pow-suc, pow-one, divides-trans}
 use Rattle.algebra.specs.Residues.{Residues}
-use Rattle.algebra.specs.Polynomials.{Poly, PolyRing, _+_, _·_, -_, 𝟎, 𝟏, constant, coefficients, constant-neg}
+use Rattle.algebra.specs.PolynomialRing.{_+ᴿ_, _·_, -ᴿ_, 𝟎, 𝟏, constant, coefficients, constant-neg}
 use Rattle.algebra.specs.Degree.{Below, Monic, below-up, below-add, below-neg, below-constant, monic-one, small-multiple}
 use Rattle.algebra.specs.Division.{Divided}
 use Rattle.algebra.specs.Leading.{divide}
@@ -26,21 +26,22 @@ use Rattle.algebra.specs.Congruence.{
   congruent-remainder,
 }
 use Rattle.factorisation.specs.MonicDivisors.{divisor-degree}
-use Rattle.frobenius.specs.FrobeniusPowers.{_^_, power-add, power-constant}
+use Rattle.frobenius.specs.FrobeniusPowers.{_^ᴿ_, power-add, power-constant}
 use Rattle.frobenius.specs.SplittingElements.{CoprimeFactors}
+use Rattle.algebra.specs.CoefficientLists.{ℤ[x]/, 𝓩[x]/}
 
 -- among the v of lower degree with constant term 𝟘 only 𝟎 is v^p modulo Q
-abbrev pub Unsplit : (p d : ℕ) → Poly (Residues p) → Type 0
+abbrev pub Unsplit : (p d : ℕ) → ℤ[x]/ p → Type 0
 Unsplit p d Q =
-    (v : Poly (Residues p)) → Below d v → v .coef 0 ≡ (Residues p) .𝟘 → _∣_ (PolyRing (Residues p)) Q (v ^ p + - v) → v ≡ 𝟎
+    (v : ℤ[x]/ p) → Below d v → v .coef 0 ≡ (Residues p) .𝟘 → _∣_ (𝓩[x]/ p) Q (v ^ᴿ p +ᴿ -ᴿ v) → v ≡ 𝟎
 
 -- e = v·b, where u·a + v·b = 𝟙, is 𝟙 modulo a and 𝟘 modulo b, so that its powers are e modulo a·b
 module _ {R : Type 0} (𝓡 : CommRing R) {a b : R} (c : Coprime 𝓡 a b) where
-  infixl 70 _*_
-  open CommRing 𝓡 using (mul as _*_, neg, 𝟙)
+  infixl 70 _*ᴿ_
+  open CommRing 𝓡 using (mul as _*ᴿ_, neg, 𝟙)
 
   abbrev idempotent : R
-  idempotent = c .v * b
+  idempotent = c .v *ᴿ b
 
   one-modulo : Congruent 𝓡 a idempotent 𝟙
   one-modulo = (
@@ -49,68 +50,68 @@ module _ {R : Type 0} (𝓡 : CommRing R) {a b : R} (c : Coprime 𝓡 a b) where
         (solve 𝓡 4 (λ u a v b. ⊝ u ⊗ a ⊖ (v ⊗ b ⊖ con 1) ≈ ⊝ con 1 ⊗ (u ⊗ a ⊕ v ⊗ b ⊖ con 1)) tt (c .u) a (c .v) b),
   )
 
-  square : Congruent 𝓡 (a * b) (idempotent * idempotent) idempotent
+  square : Congruent 𝓡 (a *ᴿ b) (idempotent *ᴿ idempotent) idempotent
   square = (
-    neg (c .v * c .u),
-    linear1 𝓡 (neg (c .v * b)) (c .law)
+    neg (c .v *ᴿ c .u),
+    linear1 𝓡 (neg (c .v *ᴿ b)) (c .law)
         (solve 𝓡 4 (λ u a v b. ⊝ (v ⊗ u) ⊗ (a ⊗ b) ⊖ (v ⊗ b ⊗ (v ⊗ b) ⊖ v ⊗ b) ≈ ⊝ (v ⊗ b) ⊗ (u ⊗ a ⊕ v ⊗ b ⊖ con 1)) tt (c .u) a (c .v) b),
   )
 
-  idempotent-power : (n : ℕ) → Congruent 𝓡 (a * b) (pow 𝓡 idempotent (suc n)) idempotent
+  idempotent-power : (n : ℕ) → Congruent 𝓡 (a *ᴿ b) (pow 𝓡 idempotent (suc n)) idempotent
   idempotent-power zero = congruent-equal 𝓡 (pow-one 𝓡 idempotent)
   idempotent-power (suc n) =
       rw (pow-suc 𝓡 idempotent (suc n))
       (congruent-trans 𝓡 (congruent-mul 𝓡 (congruent-equal 𝓡 refl) (idempotent-power n)) square)
 
 module _ {p : ℕ} (P : Prime p) where
-  module _ {A B : Poly (Residues p)} (c : Coprime (PolyRing (Residues p)) A B) (r : Poly (Residues p))
-      (remainder : Congruent (PolyRing (Residues p)) (A · B) (idempotent (PolyRing (Residues p)) c) r) where
+  module _ {A B : ℤ[x]/ p} (c : Coprime (𝓩[x]/ p) A B) (r : ℤ[x]/ p)
+      (remainder : Congruent (𝓩[x]/ p) (A · B) (idempotent (𝓩[x]/ p) c) r) where
     -- a constant that B divides is 𝟎, and 𝟎 is not 𝟏 modulo A
     not-constant : {i j : ℕ} → Monic i A → Monic j B → 1 ≤ i → 1 ≤ j → r ≢ constant (r .coef 0)
-    not-constant mA mB pA pB h = omega (arith, divisor-degree (residue-field p P .one-ne-zero) mA monic-one unit)
+    not-constant mA mB pA pB h = omega (arith, divisor-degree (residue-field p P .oneNeZero) mA monic-one unit)
       where
-        divided : _∣_ (PolyRing (Residues p)) B r
+        divided : _∣_ (𝓩[x]/ p) B r
         divided =
-            divides-congruent (PolyRing (Residues p))
-            (congruent-sym (PolyRing (Residues p)) (divides-trans (PolyRing (Residues p)) (A, refl) remainder)) (c .v, refl)
+            divides-congruent (𝓩[x]/ p)
+            (congruent-sym (𝓩[x]/ p) (divides-trans (𝓩[x]/ p) (A, refl) remainder)) (c .v, refl)
 
         gone : r ≡ 𝟎
         gone =
             let (q, g) = divided in
-            sym g ∙ ap (λ a. a · B) (small-multiple mB q (rw (g ∙ h) (below-up pB (below-constant (r .coef 0))))) ∙ zero-mul (PolyRing (Residues p)) B
+            sym g ∙ ap (λ a. a · B) (small-multiple mB q (rw (g ∙ h) (below-up pB (below-constant (r .coef 0))))) ∙ zero-mul (𝓩[x]/ p) B
 
-        unit : _∣_ (PolyRing (Residues p)) A 𝟏
+        unit : _∣_ (𝓩[x]/ p) A 𝟏
         unit =
-            divides-congruent (PolyRing (Residues p)) (congruent-sym (PolyRing (Residues p)) (one-modulo (PolyRing (Residues p)) c))
-            (divides-congruent (PolyRing (Residues p)) (divides-trans (PolyRing (Residues p)) (B, (PolyRing (Residues p)) .*-comm B A) remainder)
-            (rw gone (𝟎, zero-mul (PolyRing (Residues p)) A)))
+            divides-congruent (𝓩[x]/ p) (congruent-sym (𝓩[x]/ p) (one-modulo (𝓩[x]/ p) c))
+            (divides-congruent (𝓩[x]/ p) (divides-trans (𝓩[x]/ p) (B, (𝓩[x]/ p) .*-comm B A) remainder)
+            (rw gone (𝟎, zero-mul (𝓩[x]/ p) A)))
 
-    power-r : Congruent (PolyRing (Residues p)) (A · B) (r ^ p) r
+    power-r : Congruent (𝓩[x]/ p) (A · B) (r ^ᴿ p) r
     power-r =
-        congruent-trans (PolyRing (Residues p)) (congruent-pow (PolyRing (Residues p)) p (congruent-sym (PolyRing (Residues p)) remainder))
-        (congruent-trans (PolyRing (Residues p)) (rw (prime-suc P) at (idempotent-power (PolyRing (Residues p)) c (p - 1))) remainder)
+        congruent-trans (𝓩[x]/ p) (congruent-pow (𝓩[x]/ p) p (congruent-sym (𝓩[x]/ p) remainder))
+        (congruent-trans (𝓩[x]/ p) (rw (prime-suc P) at (idempotent-power (𝓩[x]/ p) c (p - 1))) remainder)
 
     -- r without its constant term is a splitting element
-    fixed : Congruent (PolyRing (Residues p)) (A · B) ((r + - constant (r .coef 0)) ^ p) (r + - constant (r .coef 0))
+    fixed : Congruent (𝓩[x]/ p) (A · B) ((r +ᴿ -ᴿ constant (r .coef 0)) ^ᴿ p) (r +ᴿ -ᴿ constant (r .coef 0))
     fixed =
-        congruent-trans (PolyRing (Residues p)) (congruent-equal (PolyRing (Residues p)) power)
-        (congruent-add (PolyRing (Residues p)) power-r (congruent-equal (PolyRing (Residues p)) refl))
+        congruent-trans (𝓩[x]/ p) (congruent-equal (𝓩[x]/ p) power)
+        (congruent-add (𝓩[x]/ p) power-r (congruent-equal (𝓩[x]/ p) refl))
       where
-        power : (r + - constant (r .coef 0)) ^ p ≡ r ^ p + - constant (r .coef 0)
+        power : (r +ᴿ -ᴿ constant (r .coef 0)) ^ᴿ p ≡ r ^ᴿ p +ᴿ -ᴿ constant (r .coef 0)
         power = rw (← constant-neg (r .coef 0))
-            (power-add P r (constant ((Residues p) .neg (r .coef 0))) ∙ ap (λ a. r ^ p + a) (power-constant P ((Residues p) .neg (r .coef 0))))
+            (power-add P r (constant ((Residues p) .neg (r .coef 0))) ∙ ap (λ a. r ^ᴿ p +ᴿ a) (power-constant P ((Residues p) .neg (r .coef 0))))
 
-  unsplit-product : {d i j : ℕ} {A B : Poly (Residues p)} → 1 ≤ d → Monic d (A · B) → Monic i A → Monic j B → 1 ≤ i → 1 ≤ j
-      → Coprime (PolyRing (Residues p)) A B → Unsplit p d (A · B) → ⊥
+  unsplit-product : {d i j : ℕ} {A B : ℤ[x]/ p} → 1 ≤ d → Monic d (A · B) → Monic i A → Monic j B → 1 ≤ i → 1 ≤ j
+      → Coprime (𝓩[x]/ p) A B → Unsplit p d (A · B) → ⊥
   unsplit-product {d} {i} {j} {A} {B} l m mA mB pA pB c unsplit =
       not-constant c (D .remainder) (congruent-remainder D) mA mB pA pB
-      (eq-of-sub (PolyRing (Residues p)) (unsplit v small first (fixed c (D .remainder) (congruent-remainder D))))
+      (eq-of-sub (𝓩[x]/ p) (unsplit v small first (fixed c (D .remainder) (congruent-remainder D))))
     where
-      D : Divided d (A · B) (idempotent (PolyRing (Residues p)) c)
-      D = divide (residue-discrete p) m (idempotent (PolyRing (Residues p)) c)
+      D : Divided d (A · B) (idempotent (𝓩[x]/ p) c)
+      D = divide (residue-discrete p) m (idempotent (𝓩[x]/ p) c)
 
-      v : Poly (Residues p)
-      v = D .remainder + - constant (D .remainder .coef 0)
+      v : ℤ[x]/ p
+      v = D .remainder +ᴿ -ᴿ constant (D .remainder .coef 0)
 
       small : Below d v
       small = below-add (D .small) (below-neg (below-up l (below-constant (D .remainder .coef 0))))
@@ -119,6 +120,6 @@ module _ {p : ℕ} (P : Prime p) where
       first = simp coefficients (add-neg (Residues p) (D .remainder .coef 0))
 
   -- Q is no product of coprime factors of degree 1 or more
-  pub unsplit-indivisible : {d : ℕ} {Q A B : Poly (Residues p)} → 1 ≤ d → Monic d Q → Unsplit p d Q → ¬ CoprimeFactors Q A B
+  pub unsplit-indivisible : {d : ℕ} {Q A B : ℤ[x]/ p} → 1 ≤ d → Monic d Q → Unsplit p d Q → ¬ CoprimeFactors Q A B
   unsplit-indivisible {d} {Q} {A} {B} l m unsplit F =
-      unsplit-product l (rw (F .multiplies) m) (F .monic-a) (F .monic-b) (F .positive-a) (F .positive-b) (F .coprime) (rw (F .multiplies) unsplit)
+      unsplit-product l (rw (F .multiplies) m) (F .monicA) (F .monicB) (F .positiveA) (F .positiveB) (F .coprime) (rw (F .multiplies) unsplit)

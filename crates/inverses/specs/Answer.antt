@@ -10,37 +10,37 @@ use native.Mathlib.Omega.{arith}
 use lib.Dec.{ltb}
 use borrow.Author.Tests.{lt-ltb, le-ltb}
 use Rattle.algebra.specs.Numbers.{lt-or-le}
-use Rattle.specification.specs.Limits.{taken}
+use Rattle.specification.specs.Limits.{taken, _²}
 use Rattle.specification.specs.Inverses.{inverse}
 use Rattle.inverses.specs.Rule.{Rule}
 use Rattle.inverses.specs.Unique.{inverse-is, inverse-none}
 
 -- for a taken prime p and a below its square the inverse of a modulo the square; in every other case 0
 unfoldable pub tabled : ℕ → ℕ → ℕ
-tabled p a = cond (taken p && ltb a (p * p)) (inverse (p * p) a) 0
+tabled p a = cond (taken p && ltb a (p ²)) (inverse (p ²) a) 0
 
 pub record Answer (p a r : ℕ) : Type 0 where
   pub is : r ≡ tabled p a
   pub rule : taken p ≡ true → Rule p a r
 
 -- p divides what a multiple of p leaves modulo p², and it does not divide 1 unless it is 1
-multiple-none : (p a b : ℕ) → a % p ≡ 0 → b * a % (p * p) ≡ 1 → ⊥
+multiple-none : (p a b : ℕ) → a % p ≡ 0 → b * a % (p ²) ≡ 1 → ⊥
 multiple-none p a b e h =
     let one : p ≡ 1 = eq-one-of-dvd-one (rw h at (dvd-mod-iff p (dvd-mul-right p p) .1 (dvd-mul-left-of-dvd p (dvd-of-mod-eq-zero p e) b))) in
     let left : b * a % 1 ≡ 1 = rw one at h in
     omega (arith, mod-one (b * a))
 
-rule-inverse : (p a r : ℕ) → a < p * p → Rule p a r → r ≡ inverse (p * p) a
+rule-inverse : (p a r : ℕ) → a < p ² → Rule p a r → r ≡ inverse (p ²) a
 rule-inverse p a r l w = at (ℕ-discrete (a % p) 0)
   where
-    at : Dec (a % p ≡ 0) → r ≡ inverse (p * p) a
-    at (yes e) = w .multiple e ∙ sym (inverse-none (p * p) a (λ b. multiple-none p a b e))
-    at (no n) = sym (inverse-is (p * p) a r (w .unit l n .0) (w .unit l n .1))
+    at : Dec (a % p ≡ 0) → r ≡ inverse (p ²) a
+    at (yes e) = w .multiple e ∙ sym (inverse-none (p ²) a (λ b. multiple-none p a b e))
+    at (no n) = sym (inverse-is (p ²) a r (w .unit l n .0) (w .unit l n .1))
 
 rule-tabled : (p a r : ℕ) → taken p ≡ true → Rule p a r → r ≡ tabled p a
 unfolding tabled
 rule-tabled p a r t w =
-    ⊎-elim (λ l. rw (t, lt-ltb a (p * p) l) (rule-inverse p a r l w)) (λ l. rw (t, le-ltb a (p * p) l) (w .beyond l)) (lt-or-le a (p * p))
+    ⊎-elim (λ l. rw (t, lt-ltb a (p ²) l) (rule-inverse p a r l w)) (λ l. rw (t, le-ltb a (p ²) l) (w .beyond l)) (lt-or-le a (p ²))
 
 -- the entry was read in the row of p where p is taken, and past the table where it is not
 pub answer : (p a r : ℕ) → Rule (cond (taken p) p 0) a r → Answer p a r

@@ -1,5 +1,4 @@
-pub mod Every
 pub mod Rule
-pub mod Table
+pub mod InverseTable
 pub mod Unique
 pub mod Answer

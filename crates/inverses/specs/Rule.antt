@@ -7,24 +7,25 @@ use Prim.Native.Nat.{ℕ, _*_, _%_, _<_, _≤_}
 use native.Mathlib.Omega.{arith}
 use lib.Dec.{eqb, ltb}
 use borrow.Author.Tests.{lt-ltb, le-ltb, eq-eqb, ne-eqb, ltb-true, eqb-true}
+use Rattle.specification.specs.Limits.{_²}
 
 pub record Rule (p a r : ℕ) : Type 0 where
-  pub unit : a < p * p → (a % p ≡ 0 → ⊥) → (r < p * p) × (r * a % (p * p) ≡ 1)
+  pub unit : a < p ² → (a % p ≡ 0 → ⊥) → (r < p ²) × (r * a % (p ²) ≡ 1)
   pub multiple : a % p ≡ 0 → r ≡ 0
-  pub beyond : p * p ≤ a → r ≡ 0
+  pub beyond : p ² ≤ a → r ≡ 0
 
 unfoldable pub keeps : ℕ → ℕ → ℕ → Bool
-keeps p a r = cond (ltb a (p * p) && not (eqb (a % p) 0)) (ltb r (p * p) && eqb (r * a % (p * p)) 1) (eqb r 0)
+keeps p a r = cond (ltb a (p ²) && not (eqb (a % p) 0)) (ltb r (p ²) && eqb (r * a % (p ²)) 1) (eqb r 0)
 
 pub keeps-rule : (p a r : ℕ) → keeps p a r ≡ true → Rule p a r
 unfolding keeps
 keeps-rule p a r h = record {
   unit = λ l n.
-      let both = and-eq-true-iff (ltb r (p * p)) (eqb (r * a % (p * p)) 1) .0 (rw (lt-ltb a (p * p) l, ne-eqb (a % p) 0 n) at h) in
-      (ltb-true r (p * p) (both .0), eqb-true (r * a % (p * p)) 1 (both .1));
+      let both = and-eq-true-iff (ltb r (p ²)) (eqb (r * a % (p ²)) 1) .0 (rw (lt-ltb a (p ²) l, ne-eqb (a % p) 0 n) at h) in
+      (ltb-true r (p ²) (both .0), eqb-true (r * a % (p ²)) 1 (both .1));
   multiple = λ e. eqb-true r 0 (rw (eq-eqb (a % p) 0 e, and-false) at h);
-  beyond = λ l. eqb-true r 0 (rw (le-ltb a (p * p) l) at h);
+  beyond = λ l. eqb-true r 0 (rw (le-ltb a (p ²) l) at h);
 }
 
-pub rule-zero : {p a : ℕ} → p * p ≤ a → Rule p a 0
+pub rule-zero : {p a : ℕ} → p ² ≤ a → Rule p a 0
 rule-zero h = record { unit = λ l. absurd (omega arith); multiple = λ e. refl; beyond = λ l. refl }

@@ -9,7 +9,8 @@ use lib.Dec.{T, eqb, eqb→eq}
 use Rattle.algebra.specs.Numbers.{mul-mod-mod}
 use Rattle.specification.specs.Inverses.{inverse}
 use Rattle.specification.specs.Lists.{upFrom, below}
-use Rattle.algebra.specs.ListLaws.{first-passes, first-none, upFrom-member, upFrom-has}
+use Rattle.lists.specs.Firsts.{first-passes, first-none}
+use Rattle.lists.specs.NumbersFrom.{upFrom-member, upFrom-has}
 
 module _ (n a : ℕ) where
   -- b = b·(c·a) = c·(b·a) = c

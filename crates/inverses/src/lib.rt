@@ -2,7 +2,7 @@
 ghost use lib.ListN.{getD};
 ghost use Rattle.specification.specs.Limits.{primes};
 ghost use Rattle.inverses.specs.Rule.{Rule};
-ghost use Rattle.inverses.specs.Table.{Inverses};
+ghost use Rattle.inverses.specs.InverseTable.{Inverses};
 ghost use Rattle.inverses.specs.Answer.{Answer};
 
 const INVERSES: [[u16; 49]; 4] = [

@@ -7,9 +7,9 @@ use Prim.Native.Nat.{ℕ, _≤_, _<_, _%_, _+_, _*_, zero-le}
 use native.Mathlib.Nat.{le-refl, mul-zero, zero-mul, zero-mod, add-zero, add-mod-mod, mod-eq-of-lt}
 use native.Mathlib.Omega.{arith}
 use lib.ListN.{length, getD, set}
-use Rattle.loops.specs.Entries.{Replaced, replaced-none, replaced-more}
+use Rattle.lists.specs.Entries.{Replaced, replaced-none, replaced-more}
 use Rattle.algebra.specs.Numbers.{lt-or-le, mod-mul-mod}
-use Rattle.modular.specs.Coefficients.{Within, ZeroFrom}
+use Rattle.arrays.specs.Represents.{Within, ZeroFrom}
 
 -- r is a + c·b; past an end 0 is read
 pub record Added (n : ℕ) (a : List ℕ) (c : ℕ) (b r : List ℕ) : Type 0 where

@@ -1,12 +1,2 @@
-pub mod Widths
-pub mod Reciprocals
-pub mod Coefficients
 pub mod Multiples
-pub mod Arrays
 pub mod InPlace
-pub mod AddMultiple
-pub mod Product
-pub mod Terms
-pub mod Division
-pub mod Entrywise
-pub mod Inverse

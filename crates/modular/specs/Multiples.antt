@@ -6,45 +6,45 @@ use mathlib.Core.List.{List}
 use Prim.Native.Nat.{ℕ, _≤_, _<_, _-_}
 use lib.ListN.{replicate}
 use Rattle.algebra.specs.Ring.{neg-mul, one-mul, zero-add}
-use Rattle.algebra.specs.Residues.{residue, Residues}
-use Rattle.algebra.specs.Polynomials.{PolyRing, _+_, _·_, -_, constant}
-use Rattle.algebra.specs.CoefficientLists.{ℤ[x]/, poly, Reduced}
+use Rattle.algebra.specs.Residues.{residue}
+use Rattle.algebra.specs.PolynomialRing.{_+ᴿ_, _·_, -ᴿ_, constant}
+use Rattle.algebra.specs.CoefficientLists.{ℤ[x]/, poly, Reduced, 𝓩[x]/}
 use Rattle.algebra.specs.Monomials.{x^, shift-zero}
-use Rattle.modular.specs.Coefficients.{Represents, zeros, constant-residue-one, constant-residue-neg}
+use Rattle.arrays.specs.Represents.{Represents, zeros, constant-residue-one, constant-residue-neg}
 
 module _ (n : ℕ) where
   pub one-multiple : (b : ℤ[x]/ n) → constant (residue n 1) · b ≡ b
-  one-multiple b = ap (λ c. c · b) (constant-residue-one n) ∙ one-mul (PolyRing (Residues n)) b
+  one-multiple b = ap (λ c. c · b) (constant-residue-one n) ∙ one-mul (𝓩[x]/ n) b
 
-  pub negative-multiple : 0 < n → {c : ℕ} → c ≤ n → (b : ℤ[x]/ n) → constant (residue n (n - c)) · b ≡ - (constant (residue n c) · b)
-  negative-multiple pos {c} l b = ap (λ a. a · b) (constant-residue-neg n pos l) ∙ neg-mul (PolyRing (Residues n)) (constant (residue n c)) b
+  pub negative-multiple : 0 < n → {c : ℕ} → c ≤ n → (b : ℤ[x]/ n) → constant (residue n (n - c)) · b ≡ -ᴿ (constant (residue n c) · b)
+  negative-multiple pos {c} l b = ap (λ a. a · b) (constant-residue-neg n pos l) ∙ neg-mul (𝓩[x]/ n) (constant (residue n c)) b
 
-  pub minus-one-multiple : 0 < n → (b : ℤ[x]/ n) → constant (residue n (n - 1)) · b ≡ - b
-  minus-one-multiple pos b = negative-multiple pos pos b ∙ ap (λ a. - a) (one-multiple b)
+  pub minus-one-multiple : 0 < n → (b : ℤ[x]/ n) → constant (residue n (n - 1)) · b ≡ -ᴿ b
+  minus-one-multiple pos b = negative-multiple pos pos b ∙ ap (λ a. -ᴿ a) (one-multiple b)
 
   pub multiple-taken-off : 0 < n → {c : ℕ} → c ≤ n → {r : List ℕ} (a b : ℤ[x]/ n)
-      → Represents n r (a + constant (residue n (n - c)) · (x^ 0 · b)) → poly n r ≡ a + - (constant (residue n c) · b)
+      → Represents n r (a +ᴿ constant (residue n (n - c)) · (x^ 0 · b)) → poly n r ≡ a +ᴿ -ᴿ (constant (residue n c) · b)
   multiple-taken-off pos {c} l a b h =
-      h .is ∙ ap (λ e. a + e) (negative-multiple pos l (x^ 0 · b) ∙ ap (λ e. - (constant (residue n c) · e)) (shift-zero b))
+      h .is ∙ ap (λ e. a +ᴿ e) (negative-multiple pos l (x^ 0 · b) ∙ ap (λ e. -ᴿ (constant (residue n c) · e)) (shift-zero b))
 
 module _ (n : ℕ) (a b r : List ℕ) where
-  pub sum-represented : Represents n r (poly n a + constant (residue n 1) · (x^ 0 · poly n b)) → Represents n r (poly n a + poly n b)
-  sum-represented h = record { reduced = h .reduced; is = h .is ∙ ap (λ e. poly n a + e) (one-multiple n (x^ 0 · poly n b) ∙ shift-zero (poly n b)) }
+  pub sum-represented : Represents n r (poly n a +ᴿ constant (residue n 1) · (x^ 0 · poly n b)) → Represents n r (poly n a +ᴿ poly n b)
+  sum-represented h = record { reduced = h .reduced; is = h .is ∙ ap (λ e. poly n a +ᴿ e) (one-multiple n (x^ 0 · poly n b) ∙ shift-zero (poly n b)) }
 
-  pub difference-represented : 0 < n → Represents n r (poly n a + constant (residue n (n - 1)) · (x^ 0 · poly n b))
-      → Represents n r (poly n a + - poly n b)
+  pub difference-represented : 0 < n → Represents n r (poly n a +ᴿ constant (residue n (n - 1)) · (x^ 0 · poly n b))
+      → Represents n r (poly n a +ᴿ -ᴿ poly n b)
   difference-represented pos h = record {
     reduced = h .reduced;
-    is = h .is ∙ ap (λ e. poly n a + e) (minus-one-multiple n pos (x^ 0 · poly n b) ∙ ap (λ e. - e) (shift-zero (poly n b)));
+    is = h .is ∙ ap (λ e. poly n a +ᴿ e) (minus-one-multiple n pos (x^ 0 · poly n b) ∙ ap (λ e. -ᴿ e) (shift-zero (poly n b)));
   }
 
 pub multiple-by-one : {n c : ℕ} {a : List ℕ} → c ≡ 1 → Reduced n 33 a → Represents n a (constant (residue n c) · poly n a)
 multiple-by-one {n} {c} {a} e h = record { reduced = h; is = sym (ap (λ (k : ℕ). constant (residue n k) · poly n a) e ∙ one-multiple n (poly n a)) }
 
 pub multiple-represented : (n c : ℕ) (a r : List ℕ) → 0 < n
-    → Represents n r (poly n (replicate 33 0) + constant (residue n c) · (x^ 0 · poly n a)) → Represents n r (constant (residue n c) · poly n a)
+    → Represents n r (poly n (replicate 33 0) +ᴿ constant (residue n c) · (x^ 0 · poly n a)) → Represents n r (constant (residue n c) · poly n a)
 multiple-represented n c a r pos h = record {
   reduced = h .reduced;
-  is = h .is ∙ ap₂ (λ z e. z + constant (residue n c) · e) (zeros n pos .is) (shift-zero (poly n a))
-      ∙ zero-add (PolyRing (Residues n)) (constant (residue n c) · poly n a);
+  is = h .is ∙ ap₂ (λ z e. z +ᴿ constant (residue n c) · e) (zeros n pos .is) (shift-zero (poly n a))
+      ∙ zero-add (𝓩[x]/ n) (constant (residue n c) · poly n a);
 }

@@ -1,4 +1,2 @@
 pub mod Pieces
-pub mod Records
-pub mod Stack
-pub mod State
+pub mod PartFound

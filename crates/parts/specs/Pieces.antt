@@ -1,119 +1,161 @@
--- The loop over the pieces: `Splitting p f pieces count parts`, the state with its stack in the first `count` of an array.
--- Proves what each of the loop's steps asks for and leaves. Assumes nothing.
-use mathlib.Core.Path.{_≡_, sym, _∙_, subst}
-use mathlib.Core.Bool.{false}
-use mathlib.Core.List.{List, [], _∷_}
-use Prim.Native.Nat.{ℕ, suc, _+_, _-_, _≤_, _<_}
+-- The state of the splitting of f: the parts that are found, and a stack of pieces. `work` measures what is left to do.
+-- Proves how the state begins, that it goes on with less work where the top piece is cut and where it is found to be a part, and what it says at the end.
+-- Assumes nothing.
+use mathlib.Core.Path.{_≡_, refl, sym, _∙_, subst}
+use mathlib.Core.Bool.{false, false≢true}
+use mathlib.Core.List.{List, [], _∷_, map}
+use mathlib.Core.List.{List·Memᴰ·head as here}
+use Prim.Native.Nat.{ℕ, suc, _+_, _-_, _≤_, _<_, _*_}
 use native.Mathlib.Omega.{arith}
-use lib.ListN.{length, getD, set, length-set}
+use lib.ListN.{length, take}
 use Rattle.specification.specs.Polynomials as spec
-use Rattle.algebra.specs.CoefficientLists.{poly}
-use Rattle.factorisation.specs.Members.{All}
-use Rattle.frobenius.specs.Unsplit.{Unsplit}
-use Rattle.modular.specs.Coefficients.{Represents}
-use Rattle.splitting.specs.declared.Element.{Element}
-use Rattle.splitting.specs.Elements.{Known}
-use Rattle.factors.specs.Cut.{MonicModSquare, TwoFactors}
-use Rattle.verdicts.specs.Given.{listed}
-use Rattle.verdicts.specs.declared.Part.{Part}
-use Rattle.pieces.specs.declared.Parts.{Parts}
-use Rattle.pieces.specs.Views.{held, PartBefore}
-use Rattle.pieces.specs.Insertion.{Inserted}
-use Rattle.primary.specs.PartFound.{UnsplitPiece, PartFound}
+use Rattle.specification.specs.Parts as specification
+use Rattle.specification.specs.Limits.{_²}
+use Rattle.algebra.specs.Numbers.{square-large}
+use Rattle.algebra.specs.Fields.{Prime}
+use Rattle.algebra.specs.CoefficientLists.{ℤ[x]/, poly}
+use Rattle.lists.specs.Members.{All, all-cons, all-tail}
+use Rattle.items.specs.MonicLists.{MonicList, to-claimed}
+use Rattle.modp_element.specs.declared.Element.{Element}
+use Rattle.modp_element.specs.Elements.{Known}
+use Rattle.part_cut.specs.Cut.{TwoFactors}
+use Rattle.algebra.specs.TakenPrimes.{is-prime}
+use Rattle.arrays.specs.Listed.{listed}
+use Rattle.arrays.specs.Held.{MonicModSquare}
+use Rattle.part_verdict.specs.ByItems.{PartHeld}
+use Rattle.part_verdict.specs.AsPart.{asPart}
+use Rattle.part_verdict.specs.declared.Part.{Part}
+use Rattle.part_list.specs.declared.Parts.{Parts}
+use Rattle.part_list.specs.HeldParts.{held, PartBefore}
+use Rattle.lists.specs.Insertion.{Inserted, inserted-all}
+use Rattle.part_list.proofs.FoundParts.{Holding, holding-start, holding-found, holding-done}
+use Rattle.part_list.proofs.ArrayPieces.{listed-monic, holding-cut}
+use Rattle.parts.specs.PartFound.{PartFound}
 use Rattle.parts.specs.declared.Piece.{Piece}
-use Rattle.parts.specs.Stack.{stack, stack-empty, stack-top, stack-two, stack-length}
-use Rattle.parts.specs.State as state
-use Rattle.parts.specs.State.{State, PartsOf, work}
 
--- what is read past an array's end
-abbrev pub noPiece : Piece
-noPiece = record { coefs = []; degree = 0; element = record { known = false; v = [] } }
+-- the list of a piece
+abbrev pub pieceList : Piece → spec.Poly
+pieceList a = listed (a .degree) (a .coefs)
 
--- the state of the splitting of f, in the loop's variables
-pub record Splitting (p : ℕ) (f : spec.Poly) (pieces : List Piece) (count : ℕ) (parts : Parts) : Type 0 where
-  pub few : count ≤ 32
-  pub long : length pieces ≡ 32
-  pub state : State p f parts (stack noPiece pieces count)
+-- the degrees of the pieces
+unfoldable pub weight : List Piece → ℕ
+weight [] = 0
+weight (a ∷ l) = a .degree + weight l
 
--- a piece that is not cut, with its bar
-pub whole-piece : {p d : ℕ} {a q : List ℕ} → MonicModSquare p a d → Represents p q (poly p a) → Unsplit p d (poly p a) → UnsplitPiece p a q d
-whole-piece m b u = record {
-  prime = m .prime;
-  positive = m .positive;
-  monic = record { fits = m .fits; reduced = m .reduced; monic = m .monic };
-  bar = b;
-  unsplit = u;
+-- a cut makes one piece more of the same degrees, a part takes a piece away
+unfoldable pub work : List Piece → ℕ
+work S = 2 * weight S - length S
+
+-- r holds the parts of f, which is of degree d, in their arrays
+pub record PartsOf (p : ℕ) (f : List ℕ) (d : ℕ) (r : Parts) : Type 0 where
+  pub is : map asPart (held r) ≡ specification.partsOf p (listed d f)
+  pub few : r .count ≤ 32
+  pub arrays : All (PartHeld p) (held r)
+
+-- a piece is monic, and its element, if it is known, splits its bar
+pub record PieceHeld (p : ℕ) (a : Piece) : Type 0 where
+  pub monic : MonicModSquare p (a .coefs) (a .degree)
+  pub element : Known p (a .degree) (poly p (a .coefs)) (a .element)
+
+pub record State (p : ℕ) (f : spec.Poly) (parts : Parts) (S : List Piece) : Type 0 where
+  pub prime : Prime p
+  pub holding : Holding p prime f parts (map pieceList S)
+  pub pieces : All (PieceHeld p) S
+  pub room : parts .count + weight S ≤ 32
+  pub arrays : All (PartHeld p) (held parts)
+
+given-list : {p : ℕ} {f : List ℕ} {d : ℕ} → MonicModSquare p f d → MonicList (p ²) d (listed d f)
+given-list {p} m = listed-monic (square-large p (is-prime (m .prime) .large)) (m .array)
+
+-- nothing is claimed of an element that is not known
+not-known : {p d : ℕ} (Q : ℤ[x]/ p) {e : Element} → e .known ≡ false → Known p d Q e
+not-known Q z = record { reduced = λ y. absurd (false≢true (sym z ∙ y)); splits = λ y. absurd (false≢true (sym z ∙ y)) }
+
+pub state-start : (p : ℕ) (f : List ℕ) (d : ℕ) (e : Element) (parts : Parts) → MonicModSquare p f d → e .known ≡ false → parts .count ≡ 0
+    → State p (listed d f) parts (record { coefs = f; degree = d; element = e } ∷ [])
+unfolding weight
+state-start p f d none parts m z e = record {
+  prime = is-prime (m .prime);
+  holding = holding-start p (is-prime (m .prime)) (listed d f) parts e (to-claimed (m .positive) (given-list m));
+  pieces = all-cons (record { monic = m; element = not-known (poly p f) z }) (λ a i. elim i [ ]);
+  room = omega (arith, e, m .array .fits);
+  arrays = subst (λ k. All (PartHeld p) (take k (parts .parts))) (sym e) (λ x i. elim i [ ]);
 }
 
--- what is left to do
-abbrev pub left : List Piece → ℕ → ℕ
-left pieces count = work (stack noPiece pieces count)
+-- no piece is of degree 0
+pieces-weigh : (p : ℕ) (S : List Piece) → All (PieceHeld p) S → length S ≤ weight S
+unfolding weight
+pieces-weigh p [] h = omega arith
+pieces-weigh p (a ∷ S) h = omega (arith, h a (here refl) .monic .positive, pieces-weigh p S (all-tail h))
 
-pub splitting-done : {p d : ℕ} {f : List ℕ} {pieces : List Piece} {count : ℕ} {parts : Parts} → MonicModSquare p f d
-    → Splitting p (listed d f) pieces count parts
-    → count ≤ 0 → PartsOf p f d parts
-splitting-done {pieces = pieces} {count = count} m w l =
-    state.state-done _ _ _ _ m (subst (State _ _ _) (stack-empty noPiece pieces count (omega arith)) (w .state))
+pub state-done : (p : ℕ) (f : List ℕ) (d : ℕ) (parts : Parts) → MonicModSquare p f d → State p (listed d f) parts [] → PartsOf p f d parts
+state-done p f d parts m w = record {
+  is = holding-done p (w .prime) (listed d f) parts (given-list m) (w .holding);
+  few = omega (arith, w .room);
+  arrays = w .arrays;
+}
 
-module _ {p : ℕ} {f : spec.Poly} {pieces : List Piece} {count : ℕ} {parts : Parts} (w : Splitting p f pieces count parts) (l : 0 < count) where
-  abbrev x : Piece
-  x = getD pieces (count - 1) noPiece
-
-  abbrev rest : List Piece
-  rest = stack noPiece pieces (count - 1)
-
-  whole : stack noPiece pieces count ≡ x ∷ rest
-  whole = stack-top noPiece pieces count l
-
-  opened : State p f parts (x ∷ rest)
-  opened = subst (State p f parts) whole (w .state)
-
+module _ (p : ℕ) (f : spec.Poly) (parts : Parts) (x : Piece) (S : List Piece) (w : State p f parts (x ∷ S)) where
   pub top : MonicModSquare p (x .coefs) (x .degree)
-  top = state.top p f parts x rest opened
+  top = w .pieces x (here refl) .monic
 
   pub top-element : Known p (x .degree) (poly p (x .coefs)) (x .element)
-  top-element = state.top-element p f parts x rest opened
+  top-element = w .pieces x (here refl) .element
 
+  rest-weighs : length S ≤ weight S
+  rest-weighs = pieces-weigh p S (all-tail (w .pieces))
+
+  -- there is room for the part that a piece may be
   pub part-room : parts .count < 32
-  part-room = state.part-room p f parts x rest opened
+  unfolding weight
+  part-room = omega (arith, w .room, top .positive)
 
   pub arrays-fit : All (λ a. a .degree < 33) (held parts)
-  arrays-fit = state.arrays-fit p f parts x rest opened
+  arrays-fit a i = omega (arith, w .arrays a i .base .shaped .fits)
 
-  pub piece-room : {a b : List ℕ} {i : ℕ} → TwoFactors p (x .coefs) (x .degree) a i b → count < 32
-  piece-room {a} {b} {i} t = omega (arith, state.piece-room p f parts x rest opened a b i t, stack-length noPiece pieces (count - 1))
+  -- there is room for one piece more, where the top is cut
+  pub piece-room : (a b : List ℕ) (i : ℕ) → TwoFactors p (x .coefs) (x .degree) a i b → suc (length S) < 32
+  unfolding weight
+  piece-room a b i t = omega (arith, w .room, t .positive, t .less, rest-weighs)
 
-  module _ {a b : List ℕ} {i : ℕ} (none more : Element) (t : TwoFactors p (x .coefs) (x .degree) a i b) where
-    abbrev upper : Piece
-    upper = record { coefs = a; degree = i; element = none }
+  -- the element of the first is not known
+  module _ (a b : List ℕ) (i : ℕ) (none rest : Element) (t : TwoFactors p (x .coefs) (x .degree) a i b) where
+    first : MonicModSquare p a i
+    first = record { prime = top .prime; positive = t .positive; array = t .first }
 
-    abbrev lower : Piece
-    lower = record { coefs = b; degree = x .degree - i; element = more }
+    second : MonicModSquare p b (x .degree - i)
+    second = record { prime = top .prime; positive = omega (arith, t .less); array = t .second }
 
-    -- the array where the top piece is cut in two
     abbrev after : List Piece
-    after = set (set pieces (count - 1) lower) count upper
+    after = record { coefs = a; degree = i; element = none } ∷ record { coefs = b; degree = x .degree - i; element = rest } ∷ S
 
-    two : stack noPiece after (count + 1) ≡ upper ∷ lower ∷ rest
-    two = stack-two noPiece pieces upper lower count l (omega (arith, w .long, piece-room t))
-
-    pub splitting-cut : none .known ≡ false → Known p (x .degree - i) (poly p b) more → Splitting p f after (count + 1) parts
-    splitting-cut z k = record {
-      few = omega (arith, piece-room t);
-      long = length-set (set pieces (count - 1) _) count _ ∙ length-set pieces (count - 1) _ ∙ w .long;
-      state = subst (State p f parts) (sym two) (state.state-cut p f parts x rest opened a b i none more t z k);
+    pub state-cut : none .known ≡ false → Known p (x .degree - i) (poly p b) rest → State p f parts after
+    unfolding weight
+    state-cut z k = record {
+      prime = w .prime;
+      holding = holding-cut p (w .prime) f parts (x .coefs) a b (x .degree) i (map pieceList S) (w .holding) (t .positive) (t .less) (top .array)
+          (t .first) (t .second) (t .coprime) (t .multiplies);
+      pieces = all-cons (record { monic = first; element = not-known (poly p a) z }) (all-cons (record { monic = second; element = k }) (all-tail (w .pieces)));
+      room = omega (arith, w .room, t .less);
+      arrays = w .arrays;
     }
 
-    pub cut-less : left after (count + 1) < left pieces count
-    cut-less = rw (two, whole) (state.cut-works p f parts x rest opened a b i none more t)
+    pub cut-works : work after < work (x ∷ S)
+    unfolding work weight
+    cut-works = omega (arith, t .positive, t .less, rest-weighs)
 
-  pub splitting-found : {r : Parts} {part : Part} → PartFound p (x .coefs) (x .degree) part → r .count ≡ suc (parts .count)
-      → Inserted PartBefore part (held parts) (held r) → Splitting p f pieces (count - 1) r
-  splitting-found {r} {part} t e i = record {
-    few = omega (arith, w .few);
-    long = w .long;
-    state = state.state-found p f parts x rest opened r part t e i;
+  pub state-found : (r : Parts) (part : Part) → PartFound p (x .coefs) (x .degree) part → r .count ≡ suc (parts .count)
+      → Inserted PartBefore part (held parts) (held r) → State p f r S
+  unfolding weight
+  state-found r part t e i = record {
+    prime = w .prime;
+    holding = holding-found p (w .prime) f parts r part (t .found) (map pieceList S)
+        (subst (λ g. Holding p (w .prime) f parts (g ∷ map pieceList S)) (sym (t .partIs)) (w .holding)) (t .over) (t .is) i;
+    pieces = all-tail (w .pieces);
+    room = omega (arith, e, w .room, top .positive);
+    arrays = inserted-all PartBefore (PartHeld p) i (t .held) (w .arrays);
   }
 
-  pub found-less : left pieces (count - 1) < left pieces count
-  found-less = rw whole (state.found-works p f parts x rest opened)
+  pub found-works : work S < work (x ∷ S)
+  unfolding work weight
+  found-works = omega (arith, top .positive, rest-weighs)

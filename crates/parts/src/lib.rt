@@ -1,36 +1,27 @@
 // All parts of a monic f modulo p², in the order of item 3: a stack of pieces, each cut in two or found to be a part.
-// `parts_of` takes any record. What is public is so for the crates above, and no entry point of the library.
+// What is public is so for the crates above, and no entry point of the library.
 ghost use mathlib.Core.Path.{_≡_};
 ghost use mathlib.Core.Bool.{false};
-ghost use Rattle.specification.specs.RecordParts as specification;
 ghost use Rattle.algebra.specs.CoefficientLists.{poly};
+ghost use Rattle.arrays.specs.Held.{MonicModSquare};
 ghost use Rattle.frobenius.specs.Unsplit.{Unsplit};
-ghost use Rattle.polynomial.specs.Views.{asRecord};
-ghost use Rattle.factors.specs.Cut.{MonicModSquare};
-ghost use Rattle.primary.specs.PartFound.{PartFound};
-ghost use Rattle.parts.specs.State.{PartsOf};
-ghost use Rattle.parts.specs.Records.{PartsAnswered};
-use factors::bar;
-use factors::cut_in_two;
-use pieces::Parts;
-use pieces::insert;
-use polynomial::Poly;
-use primary::primary_part;
-use splitting::Element;
-use verdicts::Factor;
-use verdicts::Part;
-use verdicts::Verdict;
-
-// What a record's polynomial is split into; no parts where the number is not 0.
-pub struct PartsAnswer {
-    pub number: u8,
-    pub place: usize,
-    pub parts: Parts,
-}
+ghost use Rattle.parts.specs.PartFound.{UnsplitPiece, PartFound};
+ghost use Rattle.parts.specs.Pieces.{PartsOf};
+use arrays::Coefs;
+use modp_base::base_of_power;
+use modp_element::Element;
+use part_cut::bar;
+use part_cut::cut_in_two;
+use part_list::Parts;
+use part_list::insert;
+use part_verdict::Factor;
+use part_verdict::Part;
+use part_verdict::Verdict;
+use part_verdict::split_part;
 
 // A monic polynomial modulo p², its degree, and a splitting element of its bar, if one is known.
 struct Piece {
-    coefs: [u16; 33],
+    coefs: Coefs,
     degree: usize,
     element: Element,
 }
@@ -45,7 +36,7 @@ fn unknown() -> Element
     }
 }
 
-// No parts.
+// No parts. What stands past the count means nothing, so the contract says nothing of it.
 fn no_parts() -> Parts
     ensures { λ r. ⌜ r .count ≡ 0 ⌝ }
 {
@@ -70,17 +61,29 @@ fn no_parts() -> Parts
     }
 }
 
-// The part that q is, of degree d, where it is not cut.
-fn part_of(q: [u16; 33], d: usize, p: u16) -> Part
-    requires { ⌜ MonicModSquare p q d × Unsplit p d (poly p q) ⌝ }
-    ensures { λ r. ⌜ PartFound p q d r ⌝ }
+// The part that f is, of degree d, where its bar q has no splitting element: its base, its exponent, its verdict and its factors.
+fn primary_part(f: Coefs, q: Coefs, d: usize, p: u16) -> Part
+    requires { ⌜ UnsplitPiece p f q d ⌝ }
+    ensures { λ r. ⌜ PartFound p f d r ⌝ }
 {
-    let e = bar(q, d, p);
-    primary_part(q, e, d, p)
+    let g = base_of_power(q, d, p);
+    let base = g.coefs;
+    let m = d / g.degree;
+    // item 5: the lift of G has the same coefficients
+    split_part(base, base, g.degree, m, f, p)
+}
+
+// The part that f is, of degree d, where it is not cut.
+fn part_of(f: Coefs, d: usize, p: u16) -> Part
+    requires { ⌜ MonicModSquare p f d × Unsplit p d (poly p f) ⌝ }
+    ensures { λ r. ⌜ PartFound p f d r ⌝ }
+{
+    let q = bar(f, d, p);
+    primary_part(f, q, d, p)
 }
 
 // Items 1 to 9: the parts of f, which is of degree d.
-pub fn split(f: [u16; 33], d: usize, p: u16) -> Parts
+pub fn parts_of(f: Coefs, d: usize, p: u16) -> Parts
     requires { ⌜ MonicModSquare p f d ⌝ }
     ensures { λ r. ⌜ PartsOf p f d r ⌝ }
 {
@@ -122,43 +125,4 @@ pub fn split(f: [u16; 33], d: usize, p: u16) -> Parts
         }
     }
     parts
-}
-
-// 10: the record is not proper; 13: f is not monic; 5: its degree is 0; 0: none of these.
-fn parts_number(a: Poly) -> u8
-    ensures { λ r. ⌜ r ≡ specification.partsNumber (asRecord a) ⌝ }
-{
-    let f = a.coefs;
-    if polynomial::proper(a) {
-        if polynomial::leading(f) == 1 {
-            if modular::size(f) == 1 { 5 } else { 0 }
-        } else {
-            13
-        }
-    } else {
-        10
-    }
-}
-
-// The parts of a record's polynomial.
-pub fn parts_of(a: Poly) -> PartsAnswer
-    ensures { λ r. ⌜ PartsAnswered (asRecord a) r ⌝ }
-{
-    let number = parts_number(a);
-    if number == 0 {
-        let f = a.coefs;
-        let parts = split(f, modular::size(f) - 1, a.prime as u16);
-        PartsAnswer {
-            number: 0,
-            place: 0,
-            parts: parts,
-        }
-    } else {
-        let parts = no_parts();
-        PartsAnswer {
-            number: number,
-            place: 0,
-            parts: parts,
-        }
-    }
 }

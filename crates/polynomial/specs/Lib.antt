@@ -1,6 +1,1 @@
-pub mod Views
-pub mod RecordLaws
-pub mod Accepted
-pub mod Results
-pub mod DivisionResult
-pub mod Laws
+pub mod AsRecord

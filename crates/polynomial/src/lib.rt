@@ -2,15 +2,16 @@
 // Each entry point gives back, field by field, what the specification gives for the same records; none has a `requires`. `square`, `proper` and
 // `leading` are public for the crates above, and no entry points.
 ghost use mathlib.Core.Path.{_≡_};
-ghost use Prim.Native.Nat.{_*_};
+ghost use Rattle.specification.specs.Limits.{_²};
 ghost use Rattle.specification.specs.Records as records;
-ghost use Rattle.specification.specs.Polynomials as lists;
-ghost use Rattle.polynomial.specs.Views.{asRecord, asResult, asDivision, accepted, refusedRecord, refused, divided, refusedDivision};
+ghost use Rattle.specification.specs.Polynomials as spec;
+ghost use Rattle.polynomial.specs.AsRecord.{asRecord, asResult, asDivision, accepted, refusedRecord, refused, divided, refusedDivision};
+use arrays::Coefs;
 
 // A polynomial record: a prime and 33 coefficients, constant first.
 pub struct Poly {
     pub prime: u8,
-    pub coefs: [u16; 33],
+    pub coefs: Coefs,
 }
 
 // What zero, one, x, sum, difference and product give back.
@@ -30,7 +31,7 @@ pub struct Division {
 
 // p², the modulus of a record.
 pub fn square(prime: u8) -> u16
-    ensures { λ r. ⌜ r ≡ prime * prime ⌝ }
+    ensures { λ r. ⌜ r ≡ prime ² ⌝ }
 {
     prime as u16 * prime as u16
 }
@@ -62,7 +63,7 @@ impl Poly {
 }
 
 // Number 0 with a record.
-fn accept(prime: u8, coefs: [u16; 33]) -> Answer
+fn accept(prime: u8, coefs: Coefs) -> Answer
     ensures { λ r. ⌜ asResult r ≡ accepted prime coefs ⌝ }
 {
     Answer {
@@ -98,7 +99,7 @@ fn refuse(number: u8) -> Answer
 }
 
 // The same coefficients for every taken prime.
-fn fixed(prime: u8, coefs: [u16; 33]) -> Answer
+fn fixed(prime: u8, coefs: Coefs) -> Answer
     ensures { λ r. ⌜ asResult r ≡ records.result (records.primeNumber prime) (record { prime = prime; coefficients = coefs }) ⌝ }
 {
     if primes::taken(prime) {
@@ -114,7 +115,7 @@ pub fn proper(a: Poly) -> bool
 {
     let coefs = a.coefs;
     if primes::taken(a.prime) {
-        modular::all_below(coefs, square(a.prime))
+        arrays::all_below(coefs, square(a.prime))
     } else {
         false
     }
@@ -169,8 +170,8 @@ fn product_number(a: Poly, b: Poly) -> u8
 {
     let f = a.coefs;
     let g = b.coefs;
-    let s = modular::size(f);
-    let t = modular::size(g);
+    let s = arrays::size(f);
+    let t = arrays::size(g);
     let number = pair_number(a, b);
     if number == 0 {
         if s == 0 {
@@ -193,8 +194,8 @@ pub fn mul(a: Poly, b: Poly) -> Answer
     if number == 0 {
         let f = a.coefs;
         let g = b.coefs;
-        let s = modular::size(f);
-        let t = modular::size(g);
+        let s = arrays::size(f);
+        let t = arrays::size(g);
         accept(a.prime, modular::product(f, s, g, t, square(a.prime)))
     } else {
         refuse(number)
@@ -202,10 +203,10 @@ pub fn mul(a: Poly, b: Poly) -> Answer
 }
 
 // The coefficient at the degree; 0 for the zero polynomial.
-pub fn leading(f: [u16; 33]) -> u16
-    ensures { λ r. ⌜ r ≡ lists.leading (records.trim f) ⌝ }
+pub fn leading(f: Coefs) -> u16
+    ensures { λ r. ⌜ r ≡ spec.leading (records.trim f) ⌝ }
 {
-    let s = modular::size(f);
+    let s = arrays::size(f);
     if s == 0 { 0 } else { f[s - 1] }
 }
 
@@ -223,7 +224,7 @@ fn division_number(a: Poly, b: Poly) -> u8
 }
 
 // Number 0 with a quotient and a remainder.
-fn accept_division(prime: u8, quotient: [u16; 33], remainder: [u16; 33]) -> Division
+fn accept_division(prime: u8, quotient: Coefs, remainder: Coefs) -> Division
     ensures { λ r. ⌜ asDivision r ≡ divided prime quotient remainder ⌝ }
 {
     Division {
@@ -261,9 +262,9 @@ pub fn divide(a: Poly, b: Poly) -> Division
     if number == 0 {
         let f = a.coefs;
         let g = b.coefs;
-        let s = modular::size(f);
-        let t = modular::size(g);
-        let d = modular::divide(f, s, g, t - 1, square(a.prime));
+        let s = arrays::size(f);
+        let t = arrays::size(g);
+        let d = division::divide(f, s, g, t - 1, square(a.prime));
         let q = d.quotient;
         let r = d.remainder;
         accept_division(a.prime, q, r)

@@ -1,7 +1,7 @@
 // The taken primes, which no other place of the code lists. What is public is so for the crates above, and no entry point of the library.
 ghost use mathlib.Core.Path.{_≡_};
 ghost use Rattle.specification.specs.Limits as limits;
-ghost use Rattle.primes.specs.Places.{Place};
+ghost use Rattle.primes.specs.PrimePlaces.{Place};
 
 const PRIMES: [u8; 4] = [2, 3, 5, 7];
 

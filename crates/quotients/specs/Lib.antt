@@ -1,4 +1,2 @@
 pub mod Remainder
 pub mod Shift
-pub mod Product
-pub mod Power

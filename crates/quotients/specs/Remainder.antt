@@ -2,33 +2,31 @@
 -- Proves that a congruent polynomial has the same remainder, and that division leaves it. Assumes nothing.
 use mathlib.Core.List.{List}
 use Prim.Native.Nat.{ℕ}
-use Rattle.algebra.specs.Residues.{Residues}
-use Rattle.algebra.specs.Polynomials.{PolyRing}
 use Rattle.algebra.specs.Degree.{Below}
-use Rattle.algebra.specs.CoefficientLists.{ℤ[x]/, poly, Reduced}
+use Rattle.algebra.specs.CoefficientLists.{ℤ[x]/, poly, Reduced, 𝓩[x]/}
 use Rattle.algebra.specs.Congruence.{Congruent, congruent-sym, congruent-trans, congruent-remainder}
-use Rattle.modular.specs.Division.{DividedBy}
+use Rattle.division.specs.DivisionLoop.{DividedBy}
 
 -- r is congruent to p modulo q and has d terms
 pub record Remainder (n : ℕ) (q : List ℕ) (d : ℕ) (r : List ℕ) (p : ℤ[x]/ n) : Type 0 where
   pub reduced : Reduced n 33 r
   pub small : Below d (poly n r)
-  pub congruent : Congruent (PolyRing (Residues n)) (poly n q) (poly n r) p
+  pub congruent : Congruent (𝓩[x]/ n) (poly n q) (poly n r) p
 
 module _ (n : ℕ) {q : List ℕ} {d : ℕ} where
   -- a congruent polynomial has the same remainder
   pub remainder-congruent : {r : List ℕ} {p p′ : ℤ[x]/ n} → Remainder n q d r p
-      → Congruent (PolyRing (Residues n)) (poly n q) p p′ → Remainder n q d r p′
+      → Congruent (𝓩[x]/ n) (poly n q) p p′ → Remainder n q d r p′
   remainder-congruent h c = record {
     reduced = h .reduced;
     small = h .small;
-    congruent = congruent-trans (PolyRing (Residues n)) (h .congruent) c;
+    congruent = congruent-trans (𝓩[x]/ n) (h .congruent) c;
   }
 
   pub remainder-divided : {a t r : List ℕ} → DividedBy n a q d t r → Remainder n q d r (poly n a)
   remainder-divided {t = t} {r} h = record {
     reduced = h .remainder;
     small = h .small;
-    congruent = congruent-sym (PolyRing (Residues n))
+    congruent = congruent-sym (𝓩[x]/ n)
         (congruent-remainder (record { quotient = poly n t; remainder = poly n r; law = h .law; small = h .small }));
   }

@@ -2,20 +2,21 @@
 // Each answer is the one remainder of its polynomial by q. What is public is so for the crates above, and no entry point of the library.
 ghost use Prim.Native.Nat.{_<_, _≤_};
 ghost use lib.ListN.{length};
-ghost use Rattle.algebra.specs.Polynomials.{_·_, x};
+ghost use Rattle.algebra.specs.PolynomialRing.{_·_, x};
 ghost use Rattle.algebra.specs.Degree.{Below, Monic};
 ghost use Rattle.algebra.specs.CoefficientLists.{poly, Reduced};
 ghost use Rattle.algebra.specs.Monomials.{x^};
-ghost use Rattle.modular.specs.Coefficients.{ZeroFrom};
+ghost use Rattle.arrays.specs.Represents.{ZeroFrom};
 ghost use Rattle.quotients.specs.Remainder.{Remainder};
 ghost use Rattle.quotients.specs.Shift.{MovedUp};
+use arrays::Coefs;
 
 // a modulo q, where a has s terms.
-pub fn remainder(a: [u16; 33], s: usize, q: [u16; 33], d: usize, n: u16) -> [u16; 33]
+pub fn remainder(a: Coefs, s: usize, q: Coefs, d: usize, n: u16) -> Coefs
     requires { ⌜ Reduced n 33 a × Reduced n 33 q × (s ≤ 33) × (d < 33) × Below s (poly n a) × Monic d (poly n q) ⌝ }
     ensures { λ r. ⌜ Remainder n q d r (poly n a) ⌝ }
 {
-    let t = modular::divide(a, s, q, d, n);
+    let t = division::divide(a, s, q, d, n);
     t.remainder
 }
 
@@ -43,7 +44,7 @@ pub fn shift(r: &mut [u16], q: &[u16], d: usize, n: u16)
 }
 
 // x^k·a modulo q, where a has d terms.
-pub fn times_power_of_x(k: usize, a: [u16; 33], q: [u16; 33], d: usize, n: u16) -> [u16; 33]
+pub fn times_power_of_x(k: usize, a: Coefs, q: Coefs, d: usize, n: u16) -> Coefs
     requires { ⌜ (d < 33) × Reduced n 33 a × Reduced n 33 q × Below d (poly n a) × Monic d (poly n q) ⌝ }
     ensures { λ r. ⌜ Remainder n q d r (x^ k · poly n a) ⌝ }
 {
@@ -57,12 +58,12 @@ pub fn times_power_of_x(k: usize, a: [u16; 33], q: [u16; 33], d: usize, n: u16) 
 }
 
 // a·b modulo q, where b has d terms, by Horner's rule from the top of a: as many turns as a has terms.
-pub fn product_modulo(a: [u16; 33], b: [u16; 33], q: [u16; 33], d: usize, n: u16) -> [u16; 33]
+pub fn product_modulo(a: Coefs, b: Coefs, q: Coefs, d: usize, n: u16) -> Coefs
     requires { ⌜ (d < 33) × Reduced n 33 a × Reduced n 33 b × Reduced n 33 q × Below d (poly n b) × Monic d (poly n q) ⌝ }
     ensures { λ r. ⌜ Remainder n q d r (poly n a · poly n b) ⌝ }
 {
     let mut r = [0u16; 33];
-    let mut i = modular::size(a);
+    let mut i = arrays::size(a);
     while 0 < i {
         shift(&mut r, &q, d, n);
         modular::add_in_place(&mut r, a[i - 1], &b, d, n);

@@ -1,12 +1,12 @@
 -- What a call gives back and leaves in the answer area: the call that splits a sheet, and the answer reader.
 -- "The answer reader writes the sheet into its answer area in the same manner."
-use Prim.Native.Nat.{ℕ, _*_}
+use Prim.Native.Nat.{ℕ}
 use mathlib.Core.Bool.{Bool, false, cond}
 use mathlib.Core.List.{List, [], _++_}
 use lib.ListN.{length, drop}
 use lib.Dec.{ltb}
 use Rattle.specification.specs.Lists.{same}
-use Rattle.specification.specs.Limits.{answerArea}
+use Rattle.specification.specs.Limits.{answerArea, _²}
 use Rattle.specification.specs.Polynomials.{product}
 use Rattle.specification.specs.Commands.{operand, commands, firstWith}
 use Rattle.specification.specs.Sheets.{sheetOf, Reading, accepted, fault, readSheet, sheetBytes}
@@ -56,7 +56,7 @@ splitCall area bytes = within area (answerTo (readSheet bytes))
 unfoldable pub sheetIn : List ℕ → List ℕ
 sheetIn bytes =
     let p : ℕ = operand (firstWith 0x01 (commands bytes)) 0 in
-    sheetBytes (sheetOf p (product (p * p) (factorList bytes)))
+    sheetBytes (sheetOf p (product (p ²) (factorList bytes)))
 
 -- the bytes are "the answer to" an accepted sheet
 unfoldable pub isAnswerTo : Reading → List ℕ → Bool

@@ -1,6 +1,6 @@
 -- Coefficients: 0x03 i v, "coefficient of the i-th power is v", written and read, with the numbers 6 and 7.
 -- How wide a coefficient's value is, and under which code it stands, is said here and in the row of the table of commands.
-use Prim.Native.Nat.{ℕ, zero, suc, _*_}
+use Prim.Native.Nat.{ℕ, zero, suc}
 use mathlib.Core.Bool.{Bool, _&&_}
 use mathlib.Core.List.{List, [], _∷_}
 use lib.ListN.{getD, set, drop}
@@ -8,6 +8,7 @@ use lib.Dec.{eqb, ltb, leb}
 use Rattle.specification.specs.Polynomials.{Poly, degree}
 use Rattle.specification.specs.Commands.{Command, command, operand}
 use Rattle.specification.specs.Reading.{Reader, done, _>>=_, _>>_, judged, onNext, byte, commandByte}
+use Rattle.specification.specs.Limits.{_²}
 
 -- ---- the code and the width
 
@@ -66,7 +67,7 @@ indexOperand d least = judged 6 (indexTaken d least) byte
 
 -- "values are not 0", and below p²
 abbrev pub valueTaken : ℕ → ℕ → Bool
-valueTaken p v = ltb 0 v && ltb v (p * p)
+valueTaken p v = ltb 0 v && ltb v (p ²)
 
 -- 7: "A coefficient's value is 0, or p² or more"
 abbrev pub valueOperand : ℕ → Reader ℕ

@@ -1,7 +1,6 @@
 -- The edges of document 01, with a row at least for each of the numbers 1 to 9, as one table with one theorem.
 -- A row has the call, the length of the answer area, the bytes handed in, and the number and place that come back.
--- Then the program's example there, back and in lines; other lines that it prints; an answer of two parts; and the order of item 3 where
--- degrees are equal.
+-- Then the program's example there, back and in lines; other lines that it prints; an answer of two parts; item 3 where degrees are equal.
 use mathlib.Core.Path.{_≡_, refl}
 use Prim.Native.Nat.{ℕ}
 use mathlib.Core.List.{List, [], _∷_, _++_, map}

@@ -1,4 +1,4 @@
--- The factor list and the totals s and z that bytes hold: "Term 3 is read off bytes".
+-- The factor list and the totals s, z and r that bytes hold: "Term 3 is read off bytes".
 -- They are read off the commands that the bytes are cut into.
 use Prim.Native.Nat.{ℕ}
 use mathlib.Core.Bool.{true, false, cond}
@@ -30,3 +30,7 @@ factorTotal bytes = operand (firstWith 0x13 (commands bytes)) 0
 -- z, the second operand of 0x13
 unfoldable pub differentTotal : List ℕ → ℕ
 differentTotal bytes = operand (firstWith 0x13 (commands bytes)) 1
+
+-- r, the third operand of 0x13: "free digits"
+unfoldable pub freeTotal : List ℕ → ℕ
+freeTotal bytes = operand (firstWith 0x13 (commands bytes)) 2

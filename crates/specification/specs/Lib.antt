@@ -6,7 +6,6 @@ pub mod Inverses
 pub mod Records
 pub mod Powers
 pub mod Parts
-pub mod RecordParts
 pub mod Totals
 pub mod Commands
 pub mod Reading
@@ -15,8 +14,14 @@ pub mod Sheets
 pub mod Answers
 pub mod FactorList
 pub mod Calls
-pub mod Claims
-pub mod Promises
+pub mod Longest
+pub mod Term3
+pub mod Items1to3
+pub mod Items4to9
+pub mod ReadOff
+pub mod Settings
+pub mod SheetClaims
+pub mod ReaderClaims
 pub mod Text
 pub mod Open
 pub mod Trials

@@ -1,10 +1,10 @@
 -- The figures that document 01 settles: the primes, the highest degree, the length of the answer area.
--- No definition elsewhere has them as figures.
-use Prim.Native.Nat.{ℕ, suc}
+-- No other definition of document 01 has them as figures.
+use Prim.Native.Nat.{ℕ, suc, _*_}
 use mathlib.Core.Bool.{Bool}
 use mathlib.Core.List.{List, [], _∷_}
 use lib.Dec.{eqb}
-use Rattle.specification.specs.Lists.{any}
+use Rattle.specification.specs.Lists.{anyPasses}
 
 -- "the prime is 2, 3, 5 or 7"
 unfoldable pub primes : List ℕ
@@ -12,7 +12,12 @@ primes = 2 ∷ 3 ∷ 5 ∷ 7 ∷ []
 
 -- a number is a taken prime: number 4 asks it of a sheet, number 10 of a record
 unfoldable pub taken : ℕ → Bool
-taken p = any (eqb p) primes
+taken p = anyPasses (eqb p) primes
+
+-- p², the modulus of sheets and records
+infixl 90 _²
+abbrev pub _² : ℕ → ℕ
+p ² = p * p
 
 -- "the limit of 32"
 abbrev pub degreeLimit : ℕ

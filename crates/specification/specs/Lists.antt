@@ -7,14 +7,14 @@ use lib.Dec.{eqb}
 
 module _ {A : Type 0} where
   -- every member passes the test
-  unfoldable pub all : (A → Bool) → List A → Bool
-  all test [] = true
-  all test (a ∷ l) = test a && all test l
+  unfoldable pub allPass : (A → Bool) → List A → Bool
+  allPass test [] = true
+  allPass test (a ∷ l) = test a && allPass test l
 
   -- some member passes the test
-  unfoldable pub any : (A → Bool) → List A → Bool
-  any test [] = false
-  any test (a ∷ l) = test a || any test l
+  unfoldable pub anyPasses : (A → Bool) → List A → Bool
+  anyPasses test [] = false
+  anyPasses test (a ∷ l) = test a || anyPasses test l
 
   -- the first member that passes the test, or the default
   unfoldable pub first : (A → Bool) → A → List A → A

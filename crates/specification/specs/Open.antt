@@ -1,7 +1,7 @@
 -- `unfolding everything` opens all definitions at once, to compute with them.
 -- The tables of `Trials` and `Edges` are worked with it; a proof opens only what it needs.
 use mathlib.Core.List.{flatMap}
-use Rattle.specification.specs.Lists.{all, any, first, upFrom, below, same}
+use Rattle.specification.specs.Lists.{allPass, anyPasses, first, upFrom, below, same}
 use Rattle.specification.specs.Limits.{primes, taken}
 use Rattle.specification.specs.Polynomials.{isZero, plus, multiple, shift, times, reduce, add, scale, sub, mul, pow, product, lift}
 use Rattle.specification.specs.Polynomials.{withoutTop, remainder, quotients, quotient, divides}
@@ -16,7 +16,7 @@ use Rattle.specification.specs.Reading.{done, goOn, _>>=_, judged, onNex
 use Rattle.specification.specs.Coefficients.{coefficientCommands, coefficients}
 use Rattle.specification.specs.Sheets.{sheet, whole, readSheet, headCommands, lastCommands, sheetCommands, sheetBytes}
 use Rattle.specification.specs.Answers.{factorCommands, partCommands, endCommands, answerCommands, answer}
-use Rattle.specification.specs.FactorList.{withCoefficients, factorsIn, factorList, factorTotal, differentTotal}
+use Rattle.specification.specs.FactorList.{withCoefficients, factorsIn, factorList, factorTotal, differentTotal, freeTotal}
 use Rattle.specification.specs.Calls.{answerTo, splitCall, sheetIn, isAnswerTo, readCall}
 use Rattle.specification.specs.Text.{lastDigits, decimal, headText, coefficientText, factorText, partText, totalText, partsText, answerText}
 use Rattle.specification.specs.Text.{refusalText, printed}
@@ -24,7 +24,7 @@ use Rattle.specification.specs.Text.{refusalText, printed}
 unfoldable pub everything : Unit {0}
 unfolding
     flatMap
-    all any first upFrom below same
+    allPass anyPasses first upFrom below same
     primes taken
     isZero plus multiple shift times reduce add scale sub mul pow product lift
     withoutTop remainder quotients quotient divides
@@ -39,7 +39,7 @@ unfolding
     coefficientCommands coefficients
     sheet whole readSheet headCommands lastCommands sheetCommands sheetBytes
     factorCommands partCommands endCommands answerCommands answer
-    withCoefficients factorsIn factorList factorTotal differentTotal
+    withCoefficients factorsIn factorList factorTotal differentTotal freeTotal
     answerTo splitCall sheetIn isAnswerTo readCall
     lastDigits decimal headText coefficientText factorText partText totalText partsText answerText refusalText printed
 everything = tt

@@ -1,12 +1,13 @@
 -- Items 4 to 9: the verdict on a primary part, its factors, and all parts of f.
 -- The letters g, h, m1, w and u are those of the items.
-use Prim.Native.Nat.{ℕ, _-_, _*_, _/_, _%_}
+use Prim.Native.Nat.{ℕ, _-_, _/_, _%_}
 use mathlib.Core.Bool.{not, cond, _&&_}
 use mathlib.Core.List.{List, [], _∷_, map}
 use lib.Dec.{eqb}
 use Rattle.specification.specs.Polynomials.{Poly, isZero, reduce, scale, sub, pow, lift, quotient}
 use Rattle.specification.specs.Inverses.{inverse}
 use Rattle.specification.specs.Powers.{Power, powers, primary, highest}
+use Rattle.specification.specs.Limits.{_²}
 
 -- verdicts 1, 2, 3 and 4; "a split verdict carries m1 with it"
 pub data Verdict : Type 0 where
@@ -35,7 +36,7 @@ splitInto v qs = record { verdict = v; factors = qs }
 
 -- item 5: "let part − g^m = p·h"; the bar of h
 unfoldable pub hBar : ℕ → Poly → ℕ → Poly → Poly
-hBar p g m part = reduce p (map (λ (a : ℕ). a / p) (sub (p * p) part (pow (p * p) g m)))
+hBar p g m part = reduce p (map (λ (a : ℕ). a / p) (sub (p ²) part (pow (p ²) g m)))
 
 module _ (p : ℕ) (G g : Poly) (m : ℕ) (part : Poly) where
   -- item 7: "m1 is the highest power of G that divides h bar"
@@ -62,7 +63,7 @@ module _ (p : ℕ) (G g : Poly) (m : ℕ) (part : Poly) where
       -- item 8: "p does not divide m and m1 = m − 1. .. the factor is g + p·u, m times"
       (cond (not (eqb (m % p) 0) && eqb m1 (m - 1)) (splitInto power (factor (lift p g u) m ∷ []))
       -- item 9: "every other case. The factors are g, m1 times, then g^(m − m1) + p·w once"
-      (splitInto (split m1) (factor g m1 ∷ factor (lift p (pow (p * p) g (m - m1)) w) 1 ∷ [])))))
+      (splitInto (split m1) (factor g m1 ∷ factor (lift p (pow (p ²) g (m - m1)) w) 1 ∷ [])))))
 
 -- ---- the parts of f
 

@@ -5,7 +5,8 @@ use mathlib.Core.Bool.{Bool}
 use mathlib.Core.List.{List, [], _∷_, _++_, map}
 use lib.ListN.{length, getD, take, replicate}
 use lib.Dec.{eqb}
-use Rattle.specification.specs.Lists.{all}
+use Rattle.specification.specs.Lists.{allPass}
+use Rattle.specification.specs.Limits.{_²}
 
 -- coefficients, "constant first"
 abbrev pub Poly : Type 0
@@ -29,7 +30,7 @@ monomial k = replicate k 0 ++ (1 ∷ [])
 
 -- every coefficient is 0
 unfoldable pub isZero : Poly → Bool
-isZero f = all (λ (a : ℕ). eqb a 0) f
+isZero f = allPass (λ (a : ℕ). eqb a 0) f
 
 -- ---- over the numbers
 
@@ -87,7 +88,7 @@ product n (f ∷ fs) = mul n f (product n fs)
 
 -- q + p·t modulo p²: it has the bar of q
 unfoldable pub lift : ℕ → Poly → Poly → Poly
-lift p q t = add (p * p) q (scale (p * p) p t)
+lift p q t = add (p ²) q (scale (p ²) p t)
 
 -- ---- division by a monic polynomial g, modulo n
 

@@ -1,10 +1,11 @@
 -- Items 1 to 3: the powers of irreducibles that make up the bar of f, and the primary part over each.
--- Both are looked for among all polynomials in the order of item 3. `Claims` says, with no search, what they are.
-use Prim.Native.Nat.{ℕ, zero, suc, _*_}
+-- Both are looked for among all polynomials in the order of item 3. `Items1to3` says, with no search, what they are.
+use Prim.Native.Nat.{ℕ, zero, suc}
 use mathlib.Core.Bool.{true, false}
 use mathlib.Core.List.{List, [], _∷_, _++_, map, flatMap}
 use Rattle.specification.specs.Lists.{first, below}
 use Rattle.specification.specs.Polynomials.{Poly, degree, reduce, pow, lift, quotient, divides}
+use Rattle.specification.specs.Limits.{_²}
 
 -- ---- all polynomials modulo p: "coefficients .. are compared from the highest power down, smaller first"
 
@@ -59,4 +60,4 @@ lifts p q = map (lift p q) (polynomials p (degree q))
 
 -- item 2: the "monic primary part modulo p² whose bar is G to the m": the one among these that divides f
 unfoldable pub primary : ℕ → Poly → Power → Poly
-primary p f P = first (λ (q : Poly). divides (p * p) q f) f (lifts p (pow p (P .base) (P .exponent)))
+primary p f P = first (λ (q : Poly). divides (p ²) q f) f (lifts p (pow p (P .base) (P .exponent)))

@@ -1,12 +1,12 @@
 -- Polynomial records and the public arithmetic on them: zero, one, x, sum, difference, product, division.
 -- "The arithmetic gives only 10 to 13, the lowest that applies, place 0, with the zero polynomial of prime 2."
-use Prim.Native.Nat.{ℕ, _+_, _-_, _*_}
+use Prim.Native.Nat.{ℕ, _+_, _-_}
 use mathlib.Core.Bool.{Bool, cond, _&&_}
 use mathlib.Core.List.{[], _∷_, _++_}
 use lib.ListN.{length, take, replicate}
 use lib.Dec.{eqb, ltb}
-use Rattle.specification.specs.Lists.{all}
-use Rattle.specification.specs.Limits.{taken, degreeLimit, coefficientCount, refusedPrime}
+use Rattle.specification.specs.Lists.{allPass}
+use Rattle.specification.specs.Limits.{taken, _², degreeLimit, coefficientCount, refusedPrime}
 use Rattle.specification.specs.Polynomials.{Poly, leading, isZero, add, sub, mul, quotient, remainder}
 
 -- "A polynomial record has a prime and 33 coefficients, constant first"
@@ -16,14 +16,14 @@ pub record PolyRecord : Type 0 where
 
 -- p², the modulus of a record
 abbrev pub modulus : PolyRecord → ℕ
-modulus a = a .prime * a .prime
+modulus a = a .prime ²
 
 -- "It is proper if the prime is 2, 3, 5 or 7 and every coefficient is below p²"; it has 33 of them
 unfoldable pub proper : PolyRecord → Bool
 proper a =
     taken (a .prime)
     && eqb (length (a .coefficients)) coefficientCount
-    && all (λ (c : ℕ). ltb c (modulus a)) (a .coefficients)
+    && allPass (λ (c : ℕ). ltb c (modulus a)) (a .coefficients)
 
 -- f without the zeros at its end
 unfoldable pub trim : Poly → Poly

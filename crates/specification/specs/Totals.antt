@@ -4,7 +4,7 @@ use Prim.Native.Nat.{ℕ, _+_, _-_, _*_}
 use mathlib.Core.Bool.{cond}
 use mathlib.Core.List.{List, [], _∷_, flatMap}
 use lib.ListN.{length, replicate}
-use Rattle.specification.specs.Lists.{any, same}
+use Rattle.specification.specs.Lists.{anyPasses, same}
 use Rattle.specification.specs.Polynomials.{Poly, degree}
 use Rattle.specification.specs.Parts.{Factor, Part}
 
@@ -27,7 +27,7 @@ total Ps = length (listOf Ps)
 -- "different factors": a member counts where none after it is the same
 unfoldable pub different : List Poly → ℕ
 different [] = 0
-different (f ∷ fs) = cond (any (same f) fs) 0 1 + different fs
+different (f ∷ fs) = cond (anyPasses (same f) fs) 0 1 + different fs
 
 -- "Free digits is the sum over the parts of d times (factors of that part, with repeats, minus 1)"
 unfoldable pub freeDigits : List Part → ℕ

@@ -1,3 +1,2 @@
 pub mod Outcomes
-pub mod AnswerReader
-pub mod Laws
+pub mod CallLaws

@@ -8,7 +8,7 @@ use Rattle.specification.specs.Limits.{answerArea}
 use Rattle.specification.specs.Sheets.{Sheet, accepted, fault, readSheet}
 use Rattle.specification.specs.Answers.{answer}
 use Rattle.specification.specs.Calls as calls
-use Rattle.writing.specs.Area.{Wrote, wrote-from-start}
+use Rattle.area.specs.Wrote.{Wrote, wrote-from-start}
 use Rattle.splitter.specs.declared.Outcome.{Outcome}
 
 -- "Success gives number 0, place 0 and the count of bytes written"

@@ -6,18 +6,18 @@ ghost use lib.ListN.{length, take};
 ghost use Rattle.specification.specs.Limits.{answerArea};
 ghost use Rattle.specification.specs.Answers.{answer};
 ghost use Rattle.specification.specs.Calls.{splitCall, readCall};
-ghost use Rattle.specification.specs.Promises.{GoodSheet};
-ghost use Rattle.factors.specs.Cut.{MonicModSquare};
-ghost use Rattle.commands.specs.Views.{asSheet};
-ghost use Rattle.pieces.specs.Order.{Answers};
-ghost use Rattle.writing.specs.Area.{Wrote};
+ghost use Rattle.specification.specs.SheetClaims.{GoodSheet};
+ghost use Rattle.commands.specs.AsSheet.{asSheet};
+ghost use Rattle.lists.specs.Decides.{Decides};
+ghost use Rattle.arrays.specs.Held.{MonicModSquare};
+ghost use Rattle.area.specs.Wrote.{Wrote};
 ghost use Rattle.splitter.specs.Outcomes.{IsSuccess, IsRefused, Called};
+use answer_reader::find_candidate;
 use commands::Sheet;
-use reading::find_candidate;
-use sheets::read_sheet;
-use writing::write_sheet;
+use sheet_reader::read_sheet;
+use sheet_writer::write_sheet;
 
-// "Success gives number 0, place 0 and the count of bytes written; a refused call counts 0."
+// "Success gives number 0, place 0 and the count of bytes written; a refused call counts 0." C has it in this layout.
 #[repr(C)]
 pub struct Outcome {
     pub number: u8,
@@ -56,8 +56,8 @@ fn answer_to(out: &mut [u8], s: Sheet) -> usize
     ensures { λ r. ⌜ Wrote (now (out .entry)) (now (out .exit)) 0 (answer (asSheet s)) r ⌝ }
 {
     let f = s.coefs;
-    let parts = parts::split(f, s.degree, s.prime as u16);
-    answers::write_answer(out, s, parts)
+    let parts = parts::parts_of(f, s.degree, s.prime as u16);
+    answer_writer::write_answer(out, s, parts)
 }
 
 // The answer to a sheet, written into the area.
@@ -78,7 +78,7 @@ pub fn split(sheet: &[u8], area: &mut [u8]) -> Outcome
 // The first `count` bytes of b are the bytes of a.
 fn same_bytes(a: &[u8], b: &[u8], count: usize) -> bool
     requires { ⌜ count ≤ length (now b) ⌝ }
-    ensures { λ r. ⌜ Answers r (now (a .entry) ≡ take count (now (b .entry))) ⌝ }
+    ensures { λ r. ⌜ Decides r (now (a .entry) ≡ take count (now (b .entry))) ⌝ }
 {
     if a.len() != count {
         return false;
@@ -96,7 +96,7 @@ fn same_bytes(a: &[u8], b: &[u8], count: usize) -> bool
 // The bytes are the answer to a sheet.
 fn is_answer(bytes: &[u8], s: Sheet) -> bool
     requires { ⌜ MonicModSquare (s .prime) (s .coefs) (s .degree) × GoodSheet (asSheet s) ⌝ }
-    ensures { λ r. ⌜ Answers r (now (bytes .entry) ≡ answer (asSheet s)) ⌝ }
+    ensures { λ r. ⌜ Decides r (now (bytes .entry) ≡ answer (asSheet s)) ⌝ }
 {
     let mut own = [0u8; AREA];
     let count = answer_to(&mut own, s);
@@ -118,20 +118,4 @@ pub fn read(bytes: &[u8], area: &mut [u8]) -> Outcome
         }
     }
     refused(9, 0)
-}
-
-// `split` for C: each slice is a pointer and a length.
-#[no_mangle]
-pub extern "C" fn kuzhmader_split(sheet: &[u8], area: &mut [u8]) -> Outcome
-    ensures { λ r. ⌜ Called (splitCall (length (now (area .entry))) (now (sheet .entry))) r (now (area .entry)) (now (area .exit)) ⌝ }
-{
-    split(sheet, area)
-}
-
-// `read` for C.
-#[no_mangle]
-pub extern "C" fn kuzhmader_read(bytes: &[u8], area: &mut [u8]) -> Outcome
-    ensures { λ r. ⌜ Called (readCall (length (now (area .entry))) (now (bytes .entry))) r (now (area .entry)) (now (area .exit)) ⌝ }
-{
-    read(bytes, area)
 }

@@ -1,9 +1,11 @@
 -- `commands::operand_count` meets its contract.
 -- Assumes nothing.
 use mathlib.Core.Path.{refl, sym}
+use Prim.Native.Nat.{ℕ}
 use Rattle.specification.specs.Lists.{first}
-use Rattle.specification.specs.Commands.{operandCount}
-use Rattle.commands.specs.Table.{no-row}
+use Rattle.specification.specs.Commands.{operandCounts, operandCount}
+use Rattle.lists.specs.Cases.{passed-all}
+use Rattle.commands.proofs.OperandCounts.{no-row}
 use Rattle.commands.proofs.operand_count.Statement.{statement}
 use Rattle.commands.proofs.operand_count.Tie as tie
 
@@ -19,4 +21,4 @@ operand-count-spec =
     (λ c. rw (c .match .keys5) refl)  -- returns-5
     (λ c. rw (c .match .keys6) refl)  -- returns-6
     (λ c. rw (c .match .keys7) refl)  -- returns-7
-    (λ c. let (((((((u, n1), n2), n3), n4), n5), n6), n7) = c .match .rest in sym (no-row n1 n2 n3 n4 n5 n6 n7)))  -- returns-8
+    (λ c. sym (no-row (passed-all (λ (row : ℕ × ℕ). row .0) _ operandCounts (c .match .rest) .1))))  -- returns-8

@@ -1,7 +1,7 @@
 -- `inverses::entry_at` meets its contract.
 -- Assumes nothing.
 use borrow.Author.Needs.{needs}
-use Rattle.inverses.specs.Table.{past-row, past-table}
+use Rattle.inverses.specs.InverseTable.{past-row, past-table}
 use Rattle.inverses.proofs.entry_at.Statement.{statement}
 use Rattle.inverses.proofs.entry_at.Tie as tie
 

@@ -1,16 +1,16 @@
 -- `inverses::table` meets its contract: antt computes the test of the table's rule over the whole table, and counts the units.
 -- Assumes nothing.
 use mathlib.Core.Path.{refl}
+use Rattle.specification.specs.Lists.{allPass, upFrom, below}
 use Rattle.specification.specs.Limits.{primes}
-use Rattle.inverses.specs.Every.{every}
 use Rattle.inverses.specs.Rule.{keeps}
-use Rattle.inverses.specs.Table.{nonzero, units, rowPasses, passes, inverses}
+use Rattle.inverses.specs.InverseTable.{nonzero, units, entryPasses, passes, inverses}
 use Rattle.inverses.proofs.table.Statement.{statement}
 use Rattle.inverses.proofs.table.Tie as tie
 
 pub table-spec : {M : Type 1} → statement M
-unfolding primes passes rowPasses every keeps units nonzero
+unfolding primes passes entryPasses allPass below upFrom keeps units nonzero
 table-spec =
     tie.close
     (tie.spec
-    (λ c. inverses refl refl))  -- returns
+    (λ c. inverses tt refl))  -- returns

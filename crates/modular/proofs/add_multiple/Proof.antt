@@ -1,8 +1,8 @@
 -- `modular::add_multiple` meets its contract: `add_in_place` is lent the part from k on.
 -- Assumes nothing.
 use borrow.Author.Needs.{needs}
-use Rattle.modular.specs.Arrays.{zero-above}
-use Rattle.modular.specs.AddMultiple.{part-within, multiple-added}
+use Rattle.arrays.specs.SameEntries.{zero-above}
+use Rattle.modular.proofs.AddMultiple.{part-within, multiple-added}
 use Rattle.modular.proofs.add_multiple.Statement.{statement}
 use Rattle.modular.proofs.add_multiple.Tie as tie
 

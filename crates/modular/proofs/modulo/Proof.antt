@@ -4,8 +4,8 @@ use mathlib.Core.Path.{refl}
 use Prim.Native.Nat.{_-_, _%_}
 use lib.ListN.{getD}
 use borrow.Author.Needs.{needs}
-use Rattle.loops.specs.Entries.{Replaced, replaced-none, replaced-more}
-use Rattle.modular.specs.Entrywise.{modulo-done}
+use Rattle.lists.specs.Entries.{Replaced, replaced-none, replaced-more}
+use Rattle.modular.proofs.Entrywise.{modulo-done}
 use Rattle.modular.proofs.modulo.Statement.{statement}
 use Rattle.modular.proofs.modulo.Tie as tie
 

@@ -2,7 +2,7 @@
 -- Assumes nothing.
 use native.Mathlib.Omega.{arith}
 use borrow.Author.Needs.{needs}
-use Rattle.modular.specs.Coefficients.{zeros}
+use Rattle.arrays.specs.Represents.{zeros}
 use Rattle.modular.specs.Multiples.{multiple-by-one, multiple-represented}
 use Rattle.modular.proofs.multiple.Statement.{statement}
 use Rattle.modular.proofs.multiple.Tie as tie

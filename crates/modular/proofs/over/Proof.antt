@@ -4,8 +4,8 @@ use Prim.Native.Nat.{_-_, _/_}
 use mathlib.Core.Path.{refl}
 use lib.ListN.{getD}
 use borrow.Author.Needs.{needs}
-use Rattle.loops.specs.Entries.{Replaced, replaced-none, replaced-more}
-use Rattle.modular.specs.Entrywise.{over-done}
+use Rattle.lists.specs.Entries.{Replaced, replaced-none, replaced-more}
+use Rattle.modular.proofs.Entrywise.{over-done}
 use Rattle.modular.proofs.over.Statement.{statement}
 use Rattle.modular.proofs.over.Tie as tie
 

@@ -4,9 +4,9 @@ use Prim.Native.Nat.{_≤_, _-_}
 use native.Mathlib.Omega.{arith}
 use borrow.Author.Needs.{needs}
 use Rattle.algebra.specs.Degree.{below-up}
-use Rattle.modular.specs.Arrays.{zero-above}
-use Rattle.modular.specs.AddMultiple.{part-within, multiple-added}
-use Rattle.modular.specs.Product.{PartialProduct, product-none, product-more, product-done}
+use Rattle.arrays.specs.SameEntries.{zero-above}
+use Rattle.modular.proofs.AddMultiple.{part-within, multiple-added}
+use Rattle.modular.proofs.ProductLoop.{PartialProduct, product-none, product-more, product-done}
 use Rattle.modular.proofs.product.Statement.{statement}
 use Rattle.modular.proofs.product.Tie as tie
 

@@ -1,7 +1,7 @@
 -- `parts::part_of` meets its contract.
 -- Assumes nothing.
 use borrow.Author.Needs.{needs}
-use Rattle.parts.specs.Pieces.{whole-piece}
+use Rattle.parts.proofs.PiecesLoop.{whole-piece}
 use Rattle.parts.proofs.part_of.Statement.{statement}
 use Rattle.parts.proofs.part_of.Tie as tie
 

@@ -1,28 +1,101 @@
 -- `parts::parts_of` meets its contract.
 -- Assumes nothing.
-use mathlib.Core.Path.{sym, _∙_}
+use mathlib.Core.Path.{refl}
 use native.Mathlib.Omega.{arith}
+use lib.ListN.{getD}
 use borrow.Author.Needs.{needs}
-use Rattle.parts.specs.Records.{number-zero, positive, record-monic, parts-answered, parts-refused}
+use Rattle.lists.specs.Stack.{stack}
+use Rattle.parts.specs.Pieces.{pieceList, state-start}
+use Rattle.parts.proofs.PiecesLoop.{
+  noPiece,
+  Cutting,
+  left,
+  top,
+  top-element,
+  part-room,
+  arrays-fit,
+  piece-room,
+  cutting-on,
+  cut-less,
+  cutting-found,
+  found-less,
+  cutting-done,
+}
 use Rattle.parts.proofs.parts_of.Statement.{statement}
 use Rattle.parts.proofs.parts_of.Tie as tie
+
+abbrev Inv-loop : tie.InvT-loop
+Inv-loop d p none pieces₀ count₀ parts₀ pieces count parts = Cutting p (pieceList (getD pieces₀ 0 noPiece)) pieces count parts
+
+abbrev μ-loop : tie.MeasureT-loop
+μ-loop d p none pieces₀ count₀ parts₀ pieces count parts = left pieces count
 
 pub parts-of-spec : {M : Type 1} → statement M
 parts-of-spec =
     tie.close
-    (tie.spec
-    (λ c κs. search needs)  -- parts-number-requires
-    (λ c κs. search needs)  -- size-requires
-    (λ c. omega (
-      arith,
-      positive _ (number-zero _ (sym (c .before .before .before .parts-number .ensures) ∙ c .before .before .if1 .taken))
-          (c .size .ensures),
-    ))  -- sub-split
-    (λ c. search needs)  -- cast-split
-    (λ c κs. record-monic _ (number-zero _ (sym (c .before .before .before .before .parts-number .ensures) ∙ c .before .before .before .if1 .taken))
-    (c .before .size .ensures))  -- split-requires
+    (tie.spec Inv-loop μ-loop
+    (λ c κs. search needs)  -- unknown-requires
     (λ c κs. search needs)  -- no-parts-requires
+    (λ c. record {
+      few = omega arith;
+      long = refl;
+      state = unfold stack in state-start _ _ _ _ _ (c .before .before .pre) (c .before .unknown .ensures) (c .no-parts .ensures);
+    })  -- loop-holds
+    (λ c. search needs)  -- sub-piece
+    (λ c. search needs)  -- mul-piece
+    (λ c. search needs)  -- array-copy-out-piece
+    (λ c κs.
+    let w = c .before .before .before .before .loop .inv in
+    let l = c .before .before .before .loop-test .taken in
+    (top w l, top-element w l))  -- cut-in-two-requires
     (λ c.
-    parts-answered _ (sym (c .before .before .before .before .before .parts-number .ensures) ∙ c .before .before .before .before .if1 .taken)
-    (c .before .before .size .ensures) (c .split .ensures))  -- returns
-    (λ c. parts-refused _ (c .before .before .parts-number .ensures) (c .before .if1 .left) (c .no-parts .ensures)))  -- returns-2
+    let e = c .before .before .before .before .before in
+    omega (arith, e .before .cut-in-two .ensures .two (e .if1 .taken) .less))  -- sub-pieces
+    (λ c. search needs)  -- sub-pieces-2
+    (λ c. search needs)  -- mul-pieces
+    (λ c. search needs)  -- array-set-from-pieces
+    (λ c.
+    let e = c .before .before .before .before .before in
+    let w = e .before .before .before .before .before .before .loop .inv in
+    let l = e .before .before .before .before .before .loop-test .taken in
+    let t = e .before .cut-in-two .ensures .two (e .if1 .taken) in
+    search (needs, piece-room w l t))  -- mul-pieces-2
+    (λ c.
+    let e = c .before .before .before .before .before in
+    let w = e .before .before .before .before .before .before .loop .inv in
+    let l = e .before .before .before .before .before .loop-test .taken in
+    let t = e .before .cut-in-two .ensures .two (e .if1 .taken) in
+    piece-room w l t)  -- array-set-from-pieces-2
+    (λ c. search needs)  -- add-count
+    (λ c.
+    let e = c .before .before .before .before .before in
+    let w = e .before .before .before .before .before .before .loop .inv in
+    let l = e .before .before .before .before .before .loop-test .taken in
+    let t = e .before .cut-in-two .ensures .two (e .if1 .taken) in
+    cut-less w l _ _ t)  -- loop-less
+    (λ c.
+    let e = c .before .before .before .before .before in
+    let w = e .before .before .before .before .before .before .loop .inv in
+    let l = e .before .before .before .before .before .loop-test .taken in
+    let t = e .before .cut-in-two .ensures .two (e .if1 .taken) in
+    cutting-on w l _ _ t (e .before .before .before .before .before .before .before .before .unknown .ensures)
+    (e .before .cut-in-two .ensures .restKnown (e .if1 .taken)))  -- loop-again
+    (λ c κs.
+    let w = c .before .before .before .before .before .before .loop .inv in
+    let l = c .before .before .before .before .before .loop-test .taken in
+    (top w l, c .before .cut-in-two .ensures .none (c .if1 .left)))  -- part-of-requires
+    (λ c κs.
+    let e = c .before in
+    let w = e .before .before .before .before .before .before .loop .inv in
+    let l = e .before .before .before .before .before .loop-test .taken in
+    (part-room w l, omega (arith, c .part-of .ensures .held .base .shaped .fits), arrays-fit w l))  -- insert-requires
+    (λ c. search needs)  -- sub-count
+    (λ c.
+    let e = c .before .before in
+    found-less (e .before .before .before .before .before .before .loop .inv) (e .before .before .before .before .before .loop-test .taken))  -- loop-less-2
+    (λ c.
+    let e = c .before .before in
+    let w = e .before .before .before .before .before .before .loop .inv in
+    let l = e .before .before .before .before .before .loop-test .taken in
+    cutting-found w l (c .before .part-of .ensures) (c .insert .ensures .0) (c .insert .ensures .1))  -- loop-again-2
+    (λ c. cutting-done (c .before .before .before .before .pre) (c .before .loop .inv) (c .loop-test .left)))  -- returns

@@ -3,8 +3,8 @@
 use mathlib.Core.Path.{sym, _∙_}
 use borrow.Author.Needs.{needs}
 use Rattle.specification.specs.Records.{sum}
-use Rattle.polynomial.specs.Accepted.{pair-accepted}
-use Rattle.polynomial.specs.Results.{result-refused, sum-is}
+use Rattle.polynomial.proofs.Accepted.{pair-accepted}
+use Rattle.polynomial.proofs.Results.{result-refused, sum-is}
 use Rattle.polynomial.proofs.add.Statement.{statement}
 use Rattle.polynomial.proofs.add.Tie as tie
 

@@ -4,9 +4,9 @@ use mathlib.Core.Path.{sym, _∙_}
 use native.Mathlib.Omega.{arith}
 use borrow.Author.Needs.{needs}
 use Rattle.specification.specs.Records.{division}
-use Rattle.modular.specs.Coefficients.{below-size}
-use Rattle.polynomial.specs.Accepted.{division-accepted}
-use Rattle.polynomial.specs.DivisionResult.{monic-size, monic-array, division-refused, division-is}
+use Rattle.arrays.specs.Sizes.{below-size}
+use Rattle.polynomial.proofs.Accepted.{division-accepted}
+use Rattle.polynomial.proofs.DivisionResult.{monic-size, monic-array, division-refused, division-is}
 use Rattle.polynomial.proofs.divide.Statement.{statement}
 use Rattle.polynomial.proofs.divide.Tie as tie
 

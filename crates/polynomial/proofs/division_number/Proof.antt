@@ -2,7 +2,7 @@
 -- Assumes nothing.
 use borrow.Author.Needs.{needs}
 use Rattle.specification.specs.Records.{divisionNumber}
-use Rattle.loops.specs.Cases.{cases}
+use Rattle.lists.specs.Cases.{cases}
 use Rattle.polynomial.proofs.division_number.Statement.{statement}
 use Rattle.polynomial.proofs.division_number.Tie as tie
 

@@ -4,10 +4,10 @@ use mathlib.Core.Path.{sym, _∙_}
 use native.Mathlib.Omega.{arith}
 use borrow.Author.Needs.{needs}
 use Rattle.specification.specs.Records.{productOf}
-use Rattle.modular.specs.Coefficients.{below-size}
-use Rattle.polynomial.specs.RecordLaws.{length-trim}
-use Rattle.polynomial.specs.Accepted.{product-accepted}
-use Rattle.polynomial.specs.Results.{result-refused, product-is}
+use Rattle.arrays.specs.Sizes.{below-size}
+use Rattle.polynomial.proofs.RecordLaws.{length-trim}
+use Rattle.polynomial.proofs.Accepted.{product-accepted}
+use Rattle.polynomial.proofs.Results.{result-refused, product-is}
 use Rattle.polynomial.proofs.mul.Statement.{statement}
 use Rattle.polynomial.proofs.mul.Tie as tie
 

@@ -2,7 +2,7 @@
 -- Assumes nothing.
 use borrow.Author.Needs.{needs}
 use Rattle.specification.specs.Records.{pairNumber}
-use Rattle.loops.specs.Cases.{cases}
+use Rattle.lists.specs.Cases.{cases}
 use Rattle.polynomial.proofs.pair_number.Statement.{statement}
 use Rattle.polynomial.proofs.pair_number.Tie as tie
 

@@ -8,9 +8,9 @@ use lib.Dec.{ltb}
 use borrow.Author.Needs.{needs}
 use borrow.Author.Tests.{lt-ltb, le-ltb}
 use Rattle.specification.specs.Records.{PolyRecord, pairNumber, productNumber}
-use Rattle.loops.specs.Cases.{cases}
-use Rattle.modular.specs.Coefficients.{Size}
-use Rattle.polynomial.specs.RecordLaws.{length-trim}
+use Rattle.lists.specs.Cases.{cases}
+use Rattle.arrays.specs.Sizes.{Size}
+use Rattle.polynomial.proofs.RecordLaws.{length-trim}
 use Rattle.polynomial.proofs.product_number.Statement.{statement}
 use Rattle.polynomial.proofs.product_number.Tie as tie
 

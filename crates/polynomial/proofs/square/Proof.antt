@@ -2,7 +2,7 @@
 -- Assumes nothing.
 use native.Mathlib.Omega.{arith}
 use borrow.Author.Needs.{needs}
-use Rattle.modular.specs.Widths.{square-width}
+use Rattle.residues.proofs.Widths.{square-width}
 use Rattle.polynomial.proofs.square.Statement.{statement}
 use Rattle.polynomial.proofs.square.Tie as tie
 

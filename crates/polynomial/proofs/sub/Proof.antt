@@ -3,8 +3,8 @@
 use mathlib.Core.Path.{sym, _∙_}
 use borrow.Author.Needs.{needs}
 use Rattle.specification.specs.Records.{difference}
-use Rattle.polynomial.specs.Accepted.{pair-accepted}
-use Rattle.polynomial.specs.Results.{result-refused, difference-is}
+use Rattle.polynomial.proofs.Accepted.{pair-accepted}
+use Rattle.polynomial.proofs.Results.{result-refused, difference-is}
 use Rattle.polynomial.proofs.sub.Statement.{statement}
 use Rattle.polynomial.proofs.sub.Tie as tie
 

@@ -8,7 +8,7 @@ use lib.ListN.{length, getD}
 use borrow.Author.Count.{below-none, below-more}
 use borrow.Author.Needs.{needs}
 use Rattle.specification.specs.Limits.{primes}
-use Rattle.primes.specs.Places.{place-found, place-none}
+use Rattle.primes.specs.PrimePlaces.{place-found, place-none}
 use Rattle.primes.proofs.place.Statement.{statement}
 use Rattle.primes.proofs.place.Tie as tie
 

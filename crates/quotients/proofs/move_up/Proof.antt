@@ -1,6 +1,6 @@
 -- `quotients::move_up` meets its contract. The loop has moved the entries that stand above i.
 -- Assumes nothing.
-use Prim.Native.Nat.{_-_, _≤_}
+use Prim.Native.Nat.{_≤_}
 use borrow.Author.Needs.{needs}
 use Rattle.quotients.specs.Shift.{Moving, moving-none, moving-more, moving-done}
 use Rattle.quotients.proofs.move_up.Statement.{statement}

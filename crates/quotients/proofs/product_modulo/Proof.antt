@@ -4,12 +4,12 @@ use Prim.Native.Nat.{_-_, _≤_}
 use native.Mathlib.Omega.{arith}
 use lib.ListN.{drop}
 use borrow.Author.Needs.{needs}
-use Rattle.algebra.specs.Polynomials.{_·_}
+use Rattle.algebra.specs.PolynomialRing.{_·_}
 use Rattle.algebra.specs.CoefficientLists.{poly}
-use Rattle.modular.specs.Arrays.{zero-above}
-use Rattle.modular.specs.AddMultiple.{multiple-added-to}
+use Rattle.arrays.specs.SameEntries.{zero-above}
+use Rattle.modular.proofs.AddMultiple.{multiple-added-to}
 use Rattle.quotients.specs.Remainder.{Remainder}
-use Rattle.quotients.specs.Product.{horner-none, horner-more, horner-done}
+use Rattle.quotients.proofs.HornerLoop.{horner-none, horner-more, horner-done}
 use Rattle.quotients.proofs.product_modulo.Statement.{statement}
 use Rattle.quotients.proofs.product_modulo.Tie as tie
 

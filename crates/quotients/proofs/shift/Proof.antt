@@ -3,8 +3,8 @@
 use native.Mathlib.Numerals.{add-one}
 use native.Mathlib.Omega.{arith}
 use borrow.Author.Needs.{needs}
-use Rattle.modular.specs.Arrays.{zero-above}
-use Rattle.modular.specs.AddMultiple.{multiple-added-to}
+use Rattle.arrays.specs.SameEntries.{zero-above}
+use Rattle.modular.proofs.AddMultiple.{multiple-added-to}
 use Rattle.quotients.specs.Shift.{moved-reduced, shifted}
 use Rattle.quotients.proofs.shift.Statement.{statement}
 use Rattle.quotients.proofs.shift.Tie as tie

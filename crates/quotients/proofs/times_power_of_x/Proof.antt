@@ -2,7 +2,7 @@
 -- Assumes nothing.
 use Prim.Native.Nat.{_-_, _≤_}
 use borrow.Author.Needs.{needs}
-use Rattle.algebra.specs.Polynomials.{_·_}
+use Rattle.algebra.specs.PolynomialRing.{_·_}
 use Rattle.algebra.specs.CoefficientLists.{poly}
 use Rattle.algebra.specs.Monomials.{x^}
 use Rattle.quotients.specs.Remainder.{Remainder}

@@ -3,8 +3,8 @@
 use mathlib.Core.Path.{_≡_, subst}
 use denote.Ref.{now}
 use borrow.Author.Needs.{needs}
-use Rattle.pieces.specs.Order.{Answers}
-use Rattle.splitter.specs.AnswerReader.{wrote-first}
+use Rattle.lists.specs.Decides.{Decides}
+use Rattle.splitter.proofs.ReadCall.{wrote-first}
 use Rattle.splitter.proofs.is_answer.Statement.{statement}
 use Rattle.splitter.proofs.is_answer.Tie as tie
 
@@ -16,5 +16,5 @@ is-answer-spec =
     (λ c κs. search needs)  -- answer-to-requires
     (λ c. search needs)  -- slice-aggregate-same-bytes
     (λ c κs. search needs)  -- same-bytes-requires
-    (λ c. subst (λ l. Answers (c .same-bytes .result) (now (c .before .before .before .before .before .before .args .bytes) ≡ l))
+    (λ c. subst (λ l. Decides (c .same-bytes .result) (now (c .before .before .before .before .before .before .args .bytes) ≡ l))
     (wrote-first (c .before .before .before .answer-to .ensures)) (c .same-bytes .ensures)))  -- returns

@@ -3,12 +3,12 @@
 use mathlib.Core.Logic.{⊎-elim}
 use native.Mathlib.Omega.{arith}
 use borrow.Author.Needs.{needs}
-use Rattle.specification.specs.Promises.{GoodSheet}
-use Rattle.factors.specs.Cut.{MonicModSquare}
-use Rattle.commands.specs.Views.{asSheet}
-use Rattle.writing.specs.Sheets.{sheet-room}
+use Rattle.specification.specs.SheetClaims.{GoodSheet}
+use Rattle.arrays.specs.Held.{MonicModSquare}
+use Rattle.commands.specs.AsSheet.{asSheet}
+use Rattle.sheet_writer.proofs.SheetWritten.{sheet-room}
 use Rattle.splitter.specs.Outcomes.{called-refused, called-wrote}
-use Rattle.splitter.specs.AnswerReader.{read-short, read-none, read-other, read-found}
+use Rattle.splitter.proofs.ReadCall.{read-short, read-none, read-other, read-found}
 use Rattle.splitter.proofs.read.Statement.{statement}
 use Rattle.splitter.proofs.read.Tie as tie
 
@@ -36,7 +36,7 @@ read-spec =
     (λ c κs. good (c .before))  -- is-answer-requires
     (λ c κs.
     let f = found (c .before) in
-    (omega (arith, good f .0 .fits), sheet-room _ (good f .1) (omega (arith, enough (looked f) .if1 .left))))  -- write-sheet-requires
+    (omega (arith, good f .0 .array .fits), sheet-room _ (good f .1) (omega (arith, enough (looked f) .if1 .left))))  -- write-sheet-requires
     (λ c κs. search needs)  -- success-requires
     (λ c. search needs)  -- same-length
     (λ c.

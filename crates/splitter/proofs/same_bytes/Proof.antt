@@ -6,7 +6,7 @@ use native.Mathlib.Omega.{arith}
 use lib.ListN.{length, getD}
 use borrow.Author.Count.{below-none, below-more}
 use borrow.Author.Needs.{needs}
-use Rattle.splitter.specs.AnswerReader.{lengths-differ, bytes-differ, bytes-agree}
+use Rattle.splitter.proofs.ReadCall.{lengths-differ, bytes-differ, bytes-agree}
 use Rattle.splitter.proofs.same_bytes.Statement.{statement}
 use Rattle.splitter.proofs.same_bytes.Tie as tie
 

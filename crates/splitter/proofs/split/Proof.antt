@@ -3,7 +3,7 @@
 use mathlib.Core.List.{List}
 use Prim.Native.Nat.{ℕ}
 use borrow.Author.Needs.{needs}
-use Rattle.sheets.specs.Laws.{Read, read-accepted, read-refused}
+use Rattle.sheet_reader.proofs.ReadLaws.{Read, read-accepted, read-refused}
 use Rattle.splitter.specs.Outcomes.{called-refused, called-wrote, split-short, split-refused, split-answered}
 use Rattle.splitter.proofs.split.Statement.{statement}
 use Rattle.splitter.proofs.split.Tie as tie

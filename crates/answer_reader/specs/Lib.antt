@@ -1,0 +1,3 @@
+pub mod CommandPlaces
+pub mod Fits
+pub mod FoundInBytes

@@ -1,0 +1,65 @@
+-- The layout of an answer over the code's arrays: the bytes of a factor, of a part and of an answer, as they are written one after the other.
+-- Proves that they are those of the definitions; `TotalsOf` says that the struct of the totals has those of some parts. Assumes nothing.
+use mathlib.Core.Path.{_≡_, sym, _∙_, ap, ap₂}
+use mathlib.Core.List.{List, [], _∷_, _++_, map, flatMap}
+use Prim.Native.Nat.{ℕ, _≤_}
+use native.Mathlib.Omega.{arith}
+use lib.ListN.{length, take}
+use Rattle.specification.specs.Polynomials.{Poly}
+use Rattle.specification.specs.Parts as parts
+use Rattle.specification.specs.Totals as totals
+use Rattle.specification.specs.Totals.{totalsOf}
+use Rattle.specification.specs.Sheets.{Sheet}
+use Rattle.specification.specs.Answers.{verdictNumber}
+use Rattle.lists.specs.FlatMaps.{flatMap-map}
+use Rattle.arrays.specs.Listed.{degree-listed, lower-listed}
+use Rattle.layouts.specs.CoefficientBytes.{coefficientBytes}
+use Rattle.layouts.specs.SheetLayout.{headBytes}
+use Rattle.layouts.specs.AnswerLayout.{factorBytes, partBytes, endBytes, answerBytes, factorBytes-is, partBytes-is, answerBytes-is}
+use Rattle.part_verdict.specs.declared.Factor.{Factor}
+use Rattle.part_verdict.specs.declared.Part.{Part}
+use Rattle.part_verdict.specs.AsPart.{asVerdict, asFactor, asFactors, asPart}
+use Rattle.answer_writer.specs.declared.Totals.{Totals}
+
+-- "0x12 followed by its 0x03 commands"
+pub factor-is : (p : ℕ) (q : Factor) → length (q .coefs) ≡ 33 → q .degree ≤ 32
+    → (0x12 ∷ q .degree ∷ q .times ∷ []) ++ coefficientBytes p 0 (take (q .degree) (q .coefs)) ≡ factorBytes p (asFactor q)
+factor-is p q long l =
+    sym (factorBytes-is p (asFactor q) ∙ ap₂ (λ (e : ℕ) (f : Poly). 0x12 ∷ e ∷ q .times ∷ coefficientBytes p 0 f)
+    (degree-listed (q .degree) (q .coefs) (omega arith)) (lower-listed (q .degree) (q .coefs) (omega arith)))
+
+-- 0x11: "degree of G, power, verdict", and the part's factors
+pub part-is : (s : Sheet) (x : Part) → length (x .base) ≡ 33 → x .degree ≤ 32 → {v : ℕ} → v ≡ verdictNumber (asVerdict (x .verdict))
+    → (0x11 ∷ x .degree ∷ x .exponent ∷ v ∷ []) ++ flatMap (factorBytes (s .prime)) (asFactors (x .verdict) (x .first) (x .second)) ≡ partBytes s (asPart x)
+part-is s x long l e =
+    ap₂ (λ (d v : ℕ). 0x11 ∷ d ∷ x .exponent ∷ v ∷ flatMap (factorBytes (s .prime)) (asFactors (x .verdict) (x .first) (x .second)))
+    (sym (degree-listed (x .degree) (x .base) (omega arith))) e
+    ∙ sym (partBytes-is s (asPart x))
+
+-- ---- the parts
+
+-- the bytes of one of the code's parts
+abbrev pub partWritten : Sheet → Part → List ℕ
+partWritten s x = partBytes s (asPart x)
+
+-- and of its list
+abbrev pub partsBytes : Sheet → List Part → List ℕ
+partsBytes s xs = flatMap (partWritten s) xs
+
+-- ---- the end
+
+-- the struct of the three totals
+abbrev pub asTotals : Totals → totals.Totals
+asTotals t = record { factors = t .factors; different = t .different; free = t .free }
+
+-- "Each total is counted from the list"
+abbrev pub TotalsOf : List parts.Part → Totals → Type 0
+TotalsOf Ps t = asTotals t ≡ totalsOf Ps
+
+-- ---- the whole
+
+pub answer-is : (s : Sheet) (xs : List Part)
+    → headBytes s ++ (partsBytes s xs ++ endBytes s (totalsOf (map asPart xs))) ≡ answerBytes s (map asPart xs)
+answer-is s xs =
+    ap (λ (l : List ℕ). headBytes s ++ (l ++ endBytes s (totalsOf (map asPart xs)))) (sym (flatMap-map (partBytes s) asPart xs))
+    ∙ sym (answerBytes-is s (map asPart xs))

@@ -1,0 +1,194 @@
+// The answer written into the lent area: "0x01, 0x02, then each part as 0x11 with its factors, then 0x13, 0x0F".
+// What is public is so for the crates above, and no entry point of the library.
+ghost use mathlib.Core.Path.{_≡_};
+ghost use mathlib.Core.List.{flatMap};
+ghost use Prim.Native.Nat.{_-_, _*_, _≤_, _<_};
+ghost use lib.ListN.{length};
+ghost use Rattle.specification.specs.Limits.{answerArea};
+ghost use Rattle.specification.specs.Answers.{verdictNumber};
+ghost use Rattle.lists.specs.Members.{All};
+ghost use Rattle.layouts.specs.AnswerLayout.{factorBytes, partBytes, endBytes, answerBytes};
+ghost use Rattle.commands.specs.AsSheet.{asSheet};
+ghost use Rattle.part_verdict.specs.AsPart.{asVerdict, asFactor, asFactors, asPart};
+ghost use Rattle.part_list.specs.HeldParts.{held};
+ghost use Rattle.area.specs.Wrote.{Wrote, Room};
+ghost use Rattle.answer_writer.specs.FactorsWritten.{isSplit};
+ghost use Rattle.answer_writer.specs.AnswerArrays.{partsBytes, asTotals, TotalsOf};
+ghost use Rattle.answer_writer.specs.Counting.{partFactors, Adds, Countable};
+ghost use Rattle.answer_writer.specs.Writable.{DegreesFit, heldParts, Writable};
+use area::put;
+use area::put_four;
+use area::put_three;
+use commands::Sheet;
+use part_list::Parts;
+use part_verdict::Factor;
+use part_verdict::Part;
+use part_verdict::Verdict;
+use sheet_writer::write_coefficients;
+use sheet_writer::write_head;
+
+// "factors with repeats; different factors; free digits".
+pub struct Totals {
+    pub factors: usize,
+    pub different: usize,
+    pub free: usize,
+}
+
+// 0x12: degree, how many times, and the commands of its coefficients.
+fn write_factor(out: &mut [u8], at: usize, p: u8, q: Factor) -> usize
+    requires { ⌜ (q .degree ≤ 32) × Room (now out) at (factorBytes p (asFactor q)) ⌝ }
+    ensures { λ r. ⌜ Wrote (now (out .entry)) (now (out .exit)) at (factorBytes p (asFactor q)) r ⌝ }
+{
+    let coefs = q.coefs;
+    let next = put_three(out, at, 0x12, q.degree as u8, q.times as u8);
+    write_coefficients(out, next, p, coefs, q.degree)
+}
+
+// A part's one or two factors.
+fn write_factors(out: &mut [u8], at: usize, p: u8, v: Verdict, a: Factor, b: Factor) -> usize
+    requires { ⌜ (a .degree ≤ 32) × (b .degree ≤ 32) × Room (now out) at (flatMap (factorBytes p) (asFactors v a b)) ⌝ }
+    ensures { λ r. ⌜ Wrote (now (out .entry)) (now (out .exit)) at (flatMap (factorBytes p) (asFactors v a b)) r ⌝ }
+{
+    let split = is_split(v);
+    let next = write_factor(out, at, p, a);
+    if split {
+        write_factor(out, next, p, b)
+    } else {
+        next
+    }
+}
+
+// The second factor counts.
+pub fn is_split(v: Verdict) -> bool
+    ensures { λ r. ⌜ r ≡ isSplit v ⌝ }
+{
+    match v {
+        Verdict::Basic => false,
+        Verdict::Solid => false,
+        Verdict::Power => false,
+        Verdict::Split(_) => true,
+    }
+}
+
+// "verdict 1 to 4".
+fn verdict_number(v: Verdict) -> u8
+    ensures { λ r. ⌜ r ≡ verdictNumber (asVerdict v) ⌝ }
+{
+    match v {
+        Verdict::Basic => 1,
+        Verdict::Solid => 2,
+        Verdict::Power => 3,
+        Verdict::Split(_) => 4,
+    }
+}
+
+// 0x11: degree of G, power, verdict, and the part's factors.
+fn write_part(out: &mut [u8], at: usize, s: Sheet, part: Part) -> usize
+    requires { ⌜ DegreesFit part × Room (now out) at (partBytes (asSheet s) (asPart part)) ⌝ }
+    ensures { λ r. ⌜ Wrote (now (out .entry)) (now (out .exit)) at (partBytes (asSheet s) (asPart part)) r ⌝ }
+{
+    let verdict = part.verdict;
+    let first = part.first;
+    let second = part.second;
+    let v = verdict_number(verdict);
+    let next = put_four(out, at, 0x11, part.degree as u8, part.exponent as u8, v);
+    write_factors(out, next, s.prime, verdict, first, second)
+}
+
+// The parts in order.
+fn write_parts(out: &mut [u8], at: usize, s: Sheet, parts: Parts) -> usize
+    requires { ⌜ (parts .count ≤ 32) × All DegreesFit (held parts) × Room (now out) at (partsBytes (asSheet s) (held parts)) ⌝ }
+    ensures { λ r. ⌜ Wrote (now (out .entry)) (now (out .exit)) at (partsBytes (asSheet s) (held parts)) r ⌝ }
+{
+    let items = parts.parts;
+    let count = parts.count;
+    let mut after = at;
+    let mut i: usize = 0;
+    while i < count {
+        let part = items[i];
+        let next = write_part(out, after, s, part);
+        after = next;
+        i += 1;
+    }
+    after
+}
+
+// The totals of a part over G of degree d, with s factors, z of them different.
+fn totals_of(d: usize, s: usize, z: usize) -> Totals
+    requires { ⌜ (d ≤ 32) × (1 ≤ s) × (s < 256) ⌝ }
+    ensures { λ r. ⌜ (r .factors ≡ s) × (r .different ≡ z) × (r .free ≡ d * (s - 1)) ⌝ }
+{
+    Totals {
+        factors: s,
+        different: z,
+        free: d * (s - 1),
+    }
+}
+
+// What a part adds to the totals.
+fn part_totals(part: Part) -> Totals
+    requires { ⌜ (part .degree ≤ 32) × (1 ≤ partFactors part) × (partFactors part < 256) ⌝ }
+    ensures { λ r. ⌜ Adds part (r .factors) (r .different) (r .free) ⌝ }
+{
+    let verdict = part.verdict;
+    let first = part.first;
+    let second = part.second;
+    if is_split(verdict) {
+        totals_of(part.degree, first.times + second.times, 2)
+    } else {
+        totals_of(part.degree, first.times, 1)
+    }
+}
+
+// "Each total is counted from the list".
+pub fn count_totals(parts: Parts) -> Totals
+    requires { ⌜ (parts .count ≤ 32) × Countable (held parts) ⌝ }
+    ensures { λ r. ⌜ TotalsOf (heldParts parts) r ⌝ }
+{
+    let items = parts.parts;
+    let count = parts.count;
+    let mut s: usize = 0;
+    let mut z: usize = 0;
+    let mut r: usize = 0;
+    let mut i: usize = 0;
+    while i < count {
+        let part = items[i];
+        let t = part_totals(part);
+        s += t.factors;
+        z += t.different;
+        r += t.free;
+        i += 1;
+    }
+    Totals {
+        factors: s,
+        different: z,
+        free: r,
+    }
+}
+
+// All that follows the parts, whose totals these are: 0x13 and 0x0F.
+fn write_end(out: &mut [u8], at: usize, s: Sheet, t: Totals) -> usize
+    requires { ⌜ Room (now out) at (endBytes (asSheet s) (asTotals t)) ⌝ }
+    ensures { λ r. ⌜ Wrote (now (out .entry)) (now (out .exit)) at (endBytes (asSheet s) (asTotals t)) r ⌝ }
+{
+    let next = put_four(
+        out,
+        at,
+        0x13,
+        t.factors as u8,
+        t.different as u8,
+        t.free as u8,
+    );
+    put(out, next, 0x0F)
+}
+
+// The answer to a sheet whose parts these are, from place 0 on.
+pub fn write_answer(out: &mut [u8], s: Sheet, parts: Parts) -> usize
+    requires { ⌜ Writable s parts × (answerArea ≤ length (now out)) ⌝ }
+    ensures { λ r. ⌜ Wrote (now (out .entry)) (now (out .exit)) 0 (answerBytes (asSheet s) (heldParts parts)) r ⌝ }
+{
+    let t = count_totals(parts);
+    let first = write_head(out, 0, s);
+    let last = write_parts(out, first, s, parts);
+    write_end(out, last, s, t)
+}

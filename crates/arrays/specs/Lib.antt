@@ -1,0 +1,7 @@
+pub mod Represents
+pub mod SameEntries
+pub mod Sizes
+pub mod Listed
+pub mod Held
+pub mod Terms
+pub mod MonomialArray

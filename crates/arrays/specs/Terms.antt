@@ -1,0 +1,52 @@
+-- An array with one more term: c stored at i, where there was 0.
+-- Proves that it holds the polynomial with c·x^i more. Assumes nothing.
+use mathlib.Core.Path.{_≡_, sym, _∙_, ap, ap₂, subst}
+use mathlib.Core.List.{List}
+use mathlib.Core.Logic.{_≢_, ⊎-elim}
+use Prim.Native.Nat.{ℕ, _<_}
+use native.Mathlib.Decide.{ℕ-discrete}
+use native.Mathlib.Omega.{arith}
+use lib.ListN.{getD, set, length-set}
+use lib.Seq.{getD-set-same, getD-set-other}
+use Rattle.algebra.specs.Numbers.{lt-or-le}
+use Rattle.algebra.specs.Ring.{add-zero, mul-zero, mul-one, zero-add}
+use Rattle.algebra.specs.Residues.{residue, Residues, residue-zero}
+use Rattle.algebra.specs.PolynomialRing.{_+ᴿ_, _·_, constant, poly-ext}
+use Rattle.algebra.specs.Degree.{monic-pow-x}
+use Rattle.algebra.specs.CoefficientLists.{poly, Reduced, coef-poly}
+use Rattle.algebra.specs.Monomials.{x^, coef-power-low}
+use Rattle.arrays.specs.Represents.{Represents, coef-added}
+
+module _ (n : ℕ) {q : List ℕ} (i : ℕ) {c : ℕ} (r : Reduced n 33 q) (fits : i < 33) (free : getD q i 0 ≡ 0) (low : c < n) where
+  here : getD (set q i c) i 0 ≡ c
+  here = getD-set-same q i c 0 (omega (arith, r .len))
+
+  other : (k : ℕ) → k ≢ i → getD (set q i c) k 0 ≡ getD q k 0
+  other k ne = getD-set-other q i k c 0 ne
+
+  below : (k : ℕ) → Dec (k ≡ i) → getD (set q i c) k 0 < n
+  below k (yes e) = rw (e, here) low
+  below k (no ne) = rw (other k ne) (r .low k)
+
+  none : (k : ℕ) → k ≢ i → (x^ {𝓡 = Residues n} i) .coef k ≡ (Residues n) .𝟘
+  none k ne = ⊎-elim (λ h. coef-power-low (Residues n) i k h) (λ h. monic-pow-x i .below .high k (omega (arith, ne))) (lt-or-le k i)
+
+  at : (k : ℕ) → Dec (k ≡ i) → residue n (getD (set q i c) k 0) ≡ (poly n q +ᴿ constant (residue n c) · x^ i) .coef k
+  at k (yes e) =
+      subst (λ (j : ℕ). residue n (getD (set q i c) j 0) ≡ (poly n q +ᴿ constant (residue n c) · x^ i) .coef j) (sym e)
+      (ap (residue n) here
+      ∙ sym (coef-added n q c (x^ i) i
+      ∙ ap₂ ((Residues n) .add) (ap (residue n) free ∙ residue-zero n)
+      (ap ((Residues n) .mul (residue n c)) (monic-pow-x i .leading) ∙ mul-one (Residues n) (residue n c))
+      ∙ zero-add (Residues n) (residue n c)))
+  at k (no ne) =
+      ap (residue n) (other k ne)
+      ∙ sym (coef-added n q c (x^ i) k
+      ∙ ap ((Residues n) .add (residue n (getD q k 0))) (ap ((Residues n) .mul (residue n c)) (none k ne) ∙ mul-zero (Residues n) (residue n c))
+      ∙ add-zero (Residues n) (residue n (getD q k 0)))
+
+  pub term-set : Represents n (set q i c) (poly n q +ᴿ constant (residue n c) · x^ i)
+  term-set = record {
+    reduced = record { len = length-set q i c ∙ r .len; low = λ k. below k (ℕ-discrete k i) };
+    is = poly-ext (λ k. coef-poly n (set q i c) k ∙ at k (ℕ-discrete k i));
+  }

@@ -1,3 +1,0 @@
-pub mod Arrays
-pub mod Powers
-pub mod Bases

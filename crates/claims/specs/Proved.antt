@@ -1,0 +1,214 @@
+-- The promises of documents 00 and 01 about every accepted sheet, as the claims of `specification` state them.
+-- Proves term 3 of the answer's bytes and of a call, items 1 to 9, what is read off an answer, the degrees, the settings, the answer's size and
+-- bytes, which sheets are taken, that inputs too long are refused, and the reader. Assumes nothing.
+use mathlib.Core.Path.{_≡_, refl, sym, _∙_, ap, subst}
+use mathlib.Core.Logic.{_↔_}
+use mathlib.Core.List.{List, [], _∷_}
+use mathlib.Core.List.{List·Memᴰ·head as here, List·Memᴰ·tail as there}
+use Prim.Native.Nat.{ℕ, _≤_, _<_}
+use native.Mathlib.Omega.{arith}
+use lib.ListN.{length, take, drop}
+use lib.Seq.{take-append-seam}
+use Rattle.specification.specs.Limits.{degreeLimit, answerArea, _²}
+use Rattle.specification.specs.Polynomials.{Poly, degree, product}
+use Rattle.specification.specs.Powers.{powers}
+use Rattle.specification.specs.Parts.{Part, partOf, partsOf}
+use Rattle.specification.specs.Totals.{listOf, different}
+use Rattle.specification.specs.Sheets.{Sheet, accepted, readSheet, sheetBytes}
+use Rattle.specification.specs.Answers.{answer}
+use Rattle.specification.specs.FactorList.{factorList}
+use Rattle.specification.specs.Calls.{Outcome, success, splitCall, readCall, count, areaAfter}
+use Rattle.specification.specs.ReadOff.{AnswersReadOff, DegreesAddUp, degreeSum}
+use Rattle.specification.specs.Items1to3.{Items1to3}
+use Rattle.specification.specs.Items4to9.{Items4to9}
+use Rattle.specification.specs.Term3.{LongestIn, Term3, Term3Call}
+use Rattle.specification.specs.Longest as claimed
+use Rattle.specification.specs.ReaderClaims.{AnswerTo, ReaderExact, ReaderRefuses}
+use Rattle.specification.specs.SheetClaims.{AnswersFit, Fits, GoodSheet, LongInputs, SheetsTaken}
+use Rattle.specification.specs.Settings.{Settings}
+use Rattle.algebra.specs.Numbers.{square-large}
+use Rattle.algebra.specs.Fields.{Prime, taken-prime}
+use Rattle.lists.specs.Members.{_∈_, All, all-map}
+use Rattle.items.specs.MonicLists.{MonicList, from-claimed, monic-list-mul}
+use Rattle.items.specs.MonicDivision.{monic-list-one}
+use Rattle.items.specs.Reductions.{digit-lift}
+use Rattle.items.specs.Items1to3Hold.{items}
+use Rattle.items.specs.PartForm.{base-monic}
+use Rattle.items.specs.PartValues.{values}
+use Rattle.layouts.specs.SheetsRead.{read-is-good, read-is-written, accepted-exactly}
+use Rattle.layouts.specs.SheetLength.{fault-place, long-refused}
+use Rattle.layouts.specs.AnswerLayout.{sheetParts}
+use Rattle.layouts.specs.AnswerReadBack.{MonicFactors, list-back, total-back, different-back, free-back, longest-in}
+use Rattle.items.specs.PartShapes.{PartShape, partDegrees, records}
+use Rattle.layouts.specs.AnswerSize.{answer-fits, answer-is-bytes}
+use Rattle.layouts.specs.AnswersAccepted as reader
+use Rattle.layouts.specs.AnswersAccepted.{split-written}
+use Rattle.items.specs.AllParts.{Known, known, parts-monic}
+use Rattle.items.specs.LongestHolds.{longest, different-records, part-longest}
+use Rattle.settings.specs.SettingsCounted.{settings-counted}
+
+module _ (s : Sheet) (g : GoodSheet s) where
+  abbrev p : ℕ
+  p = s .prime
+
+  prime : Prime p
+  prime = taken-prime p (g .prime)
+
+  monic : MonicList (p ²) (degree (s .poly)) (s .poly)
+  monic = from-claimed (omega (arith, square-large p (prime .large))) (g .monic)
+
+  -- what holds of the part over each power
+  all-parts : (C : Part → Type 0) → ((P : _) → Known p prime monic P → C (partOf p (s .poly) P)) → All C (sheetParts s)
+  unfolding partsOf
+  all-parts C h = all-map C (partOf p (s .poly)) (powers p (s .poly)) (λ P i. h P (known p prime monic P i))
+
+  monic-factors : MonicFactors (p ²) (sheetParts s)
+  monic-factors = all-parts _ (λ P k. k .split .monic)
+
+  pub shapes : All (PartShape (p ²)) (sheetParts s)
+  shapes =
+      all-parts (PartShape (p ²))
+      (λ P k. record {
+        base = k .over .irreducible .monic .positive;
+        exponent = k .over .positive;
+        factors = λ q i. record { monic = k .split .monic q i; notLower = k .split .notLower q i; repeated = k .split .repeated q i };
+        degrees = omega (arith, k .split .degreeSum);
+      })
+
+  -- the parts' degrees add up to the degree of f
+  pub parts-degrees : partDegrees (sheetParts s) ≡ degree (s .poly)
+  unfolding partsOf
+  parts-degrees =
+      omega (
+        arith,
+        parts-monic p prime monic (powers p (s .poly)) (known p prime monic) .reduced .len,
+        ap length (items p prime monic .partsMultiply),
+        monic .reduced .len,
+      )
+
+  answer-longest : LongestIn s (answer s)
+  answer-longest = longest-in s monic-factors (longest p prime monic)
+
+  pub fits : Fits (answer s)
+  fits =
+      let low : partDegrees (sheetParts s) ≤ degreeLimit = omega (arith, parts-degrees, g .fits) in
+      record { short = answer-fits s shapes low; low = answer-is-bytes s shapes low g }
+
+  -- the factors that are written are different ones
+  pub factors-differ : different (listOf (sheetParts s)) ≡ records (sheetParts s)
+  factors-differ = different-records p prime monic
+
+-- ---- terms 2 and 3
+
+-- "a single claim about the whole list of f, over all accepted sheets and all lists set against it"
+pub term-3 : Term3
+term-3 bytes s e = answer-longest s (read-is-good bytes s e)
+
+-- the call finds the answer
+split-accepted : (area : ℕ) → answerArea ≤ area → (bytes : List ℕ) (s : Sheet) → readSheet bytes ≡ accepted s → splitCall area bytes ≡ success (answer s)
+split-accepted area l bytes s e = ap (splitCall area) (read-is-written bytes s e) ∙ split-written area l s (read-is-good bytes s e)
+
+pub term-3-call : Term3Call
+term-3-call area bytes s l e = subst (LongestIn s) (sym written) (term-3 bytes s e)
+  where
+    written : take (count (splitCall (length area) bytes)) (areaAfter (splitCall (length area) bytes) area) ≡ answer s
+    written =
+        ap (λ (o : Outcome). take (count o) (areaAfter o area)) (split-accepted (length area) l bytes s e)
+        ∙ take-append-seam (answer s) (drop (length (answer s)) area)
+
+-- ---- items 1 to 9
+
+pub items-1-to-3 : Items1to3
+items-1-to-3 bytes s e = let g = read-is-good bytes s e in items (s .prime) (prime s g) (monic s g)
+
+pub items-4-to-9 : Items4to9
+items-4-to-9 bytes s e P i =
+    let g = read-is-good bytes s e in
+    let k = known (s .prime) (prime s g) (monic s g) P i in
+    record {
+      values = values (prime s g) (k .over) (digit-lift (s .prime) (prime s g .large) (base-monic (prime s g .large) (k .over)));
+      longest = part-longest (s .prime) (prime s g) (monic s g) P i;
+      repeated = k .split .repeated;
+    }
+
+pub answers-read-off : AnswersReadOff
+answers-read-off bytes s e = record {
+  list = list-back s (monic-factors s (read-is-good bytes s e));
+  total = total-back s;
+  different = different-back s;
+  free = free-back s;
+}
+
+-- the degree of a product of monic polynomials
+product-degree : {n : ℕ} → 1 < n → (L : List Poly) → ((q : Poly) → q ∈ L → claimed.Monic n q) → MonicList n (degreeSum L) (product n L)
+unfolding degreeSum product
+product-degree large [] h = monic-list-one large
+product-degree large (q ∷ L) h =
+    monic-list-mul large (from-claimed (omega arith) (h q (here refl))) (product-degree large L (λ r i. h r (there i)))
+
+pub degrees-add-up : DegreesAddUp
+degrees-add-up bytes s e =
+    let g = read-is-good bytes s e in
+    let t = term-3 bytes s e in
+    omega (
+      arith,
+      product-degree (square-large (s .prime) (prime s g .large)) (factorList (answer s)) (λ q i. t .irreducible q i .monic) .reduced .len,
+      ap length (t .multiplies),
+      monic s g .reduced .len,
+    )
+
+-- ---- settings
+
+pub settings : Settings
+settings bytes s e = let g = read-is-good bytes s e in rw (free-back s) (settings-counted (s .prime) (prime s g) (monic s g))
+
+-- ---- answers and sheets
+
+pub answers-fit : AnswersFit
+answers-fit bytes s e = fits s (read-is-good bytes s e)
+
+pub sheets-taken : SheetsTaken
+sheets-taken = accepted-exactly
+
+pub long-inputs : LongInputs
+long-inputs bytes l =
+    let (k, at, e) = long-refused bytes l in
+    record { number = k; place = at; refusal = e; within = fault-place bytes k at e .0 }
+
+-- ---- the answer reader
+
+multiplies : (s : Sheet) → GoodSheet s → product (s .prime ²) (factorList (answer s)) ≡ s .poly
+multiplies s g = answer-longest s g .multiplies
+
+-- the two ways to say that b is the answer to the sheet t
+answer-to : {b t : List ℕ} → reader.Answered b t ↔ AnswerTo t b
+answer-to = (
+  (λ (s, g, e, w). (s, accepted-exactly _ s .1 (g, w), e)),
+  (λ (s, r, e). (s, accepted-exactly _ s .0 r .0, e, accepted-exactly _ s .0 r .1)),
+)
+
+pub reader-exact : ReaderExact
+reader-exact area l b t =
+    let (to, from) = reader.reader-accepts-exactly multiplies area l b t in
+    ((λ e. answer-to .0 (to e)), (λ a. from (answer-to .1 a)))
+
+pub reader-refuses : ReaderRefuses
+reader-refuses area l b =
+    let (to, from) = reader.reader-refuses-exactly multiplies area l b in (
+      (λ e t a. let (s, g, is-answer, w) = answer-to .1 a in to e s g is-answer),
+      (λ h. from (λ s g e. h (sheetBytes s) (answer-to .0 (s, g, e, refl)))),
+    )
+
+-- each call undoes the other
+pub read-then-split : (area : ℕ) (b t : List ℕ) → readCall area b ≡ success t → splitCall area t ≡ success b
+read-then-split = reader.read-then-split
+
+pub split-then-read : (area : ℕ) (b t : List ℕ) → splitCall area t ≡ success b → readCall area b ≡ success t
+split-then-read = reader.split-then-read multiplies
+
+-- number 0 is success
+pub split-succeeds : (area : ℕ) (t : List ℕ) → (splitCall area t) .number ≡ 0 → splitCall area t ≡ success ((splitCall area t) .bytes)
+split-succeeds = reader.split-succeeds
+
+pub read-succeeds : (area : ℕ) (b : List ℕ) → (readCall area b) .number ≡ 0 → readCall area b ≡ success ((readCall area b) .bytes)
+read-succeeds = reader.read-succeeds multiplies

@@ -1,0 +1,181 @@
+-- What is read off an answer's bytes, where the factors of its parts are monic: its commands, the list of the parts, and its three totals.
+-- Proves them of every sheet's answer, and carries term 3 from the list of the definitions to the bytes. Assumes nothing.
+use mathlib.Core.Path.{_≡_, refl, _∙_, ap, _≡⟨_⟩_, _∎}
+use mathlib.Core.Bool.{false}
+use mathlib.Core.List.{List, [], _∷_, _++_, append-assoc, append-nil, flatMap}
+use mathlib.Core.List.{List·Memᴰ·head as here}
+use Prim.Native.Nat.{ℕ}
+use lib.ListN.{replicate}
+use lib.Dec.{eqb}
+use Rattle.specification.specs.Lists.{first}
+use Rattle.specification.specs.Polynomials.{Poly, degree, lower, monomial}
+use Rattle.specification.specs.Parts.{Factor, Part}
+use Rattle.specification.specs.Totals.{copies, listOf, total, different, freeDigits, Totals, totalsOf}
+use Rattle.specification.specs.Commands.{Command, command, operandCount, commands, firstWith}
+use Rattle.specification.specs.Coefficients.{coefficientCode, coefficientCommands}
+use Rattle.specification.specs.Sheets.{Sheet, headCommands}
+use Rattle.specification.specs.Answers.{factorCommands, partCommands, endCommands, answerCommands, answer}
+use Rattle.specification.specs.FactorList.{withCoefficients, factorsIn, factorList, factorTotal, differentTotal, freeTotal}
+use Rattle.specification.specs.Longest as claimed
+use Rattle.specification.specs.Term3 as term3
+use Rattle.specification.specs.Limits.{_²}
+use Rattle.lists.specs.Members.{All, all-cons, all-tail, all-append}
+use Rattle.lists.specs.FlatMaps.{flatMap-cons}
+use Rattle.layouts.specs.CoefficientBytes.{all-coefficients}
+use Rattle.layouts.specs.AnswerLayout.{sheetParts}
+use Rattle.items.specs.ListOfParts.{copies-cons, listOf-cons}
+use Rattle.layouts.specs.CommandsReadBack.{WellFormed, commands-back, Without, firstWith-past, factors-past, NoCoefficient, written-back}
+
+-- every factor of every part is monic modulo n
+abbrev pub MonicFactors : ℕ → List Part → Type 0
+MonicFactors n Ps = All (λ (P : Part). All (λ (q : Factor). claimed.Monic n (q .poly)) (P .splitting .factors)) Ps
+
+-- ---- what holds of every command of the parts
+
+-- a property of commands, of each kind that parts have
+record Kinds (p : ℕ) (C : Command → Type 0) : Type 0 where
+  part : (d m v : ℕ) → C (command 0x11 (d ∷ m ∷ v ∷ []))
+  factor : (e t : ℕ) → C (command 0x12 (e ∷ t ∷ []))
+  coefficients : (f : Poly) → All C (coefficientCommands p 0 f)
+
+module _ {C : Command → Type 0} (s : Sheet) (k : Kinds (s .prime) C) where
+  all-factors : (qs : List Factor) → All C (flatMap (factorCommands (s .prime)) qs)
+  unfolding flatMap factorCommands
+  all-factors [] = λ c i. elim i [ ]
+  all-factors (q ∷ qs) = all-cons (k .factor _ _) (all-append (k .coefficients (lower (q .poly))) (all-factors qs))
+
+  all-parts : (Ps : List Part) → All C (flatMap (partCommands s) Ps)
+  unfolding flatMap partCommands
+  all-parts [] = λ c i. elim i [ ]
+  all-parts (P ∷ Ps) = all-cons (k .part _ _ _) (all-append (all-factors (P .splitting .factors)) (all-parts Ps))
+
+-- each command has the operands that its code asks for
+well-formed : (s : Sheet) (Ps : List Part) → All WellFormed (answerCommands s Ps)
+unfolding answerCommands headCommands endCommands operandCount first
+well-formed s Ps =
+    all-cons refl (all-cons refl (all-append (all-parts s (record {
+      part = λ d m v. refl;
+      factor = λ e t. refl;
+      coefficients = λ f. all-coefficients WellFormed (s .prime) 0 f (λ i v. refl);
+    }) Ps) (all-cons refl (all-cons refl (λ c i. elim i [ ])))))
+
+-- no part has a code that is none of 0x11, 0x12 and a coefficient's
+parts-without : (s : Sheet) (code : ℕ) → eqb 0x11 code ≡ false → eqb 0x12 code ≡ false → eqb (coefficientCode (s .prime)) code ≡ false → (Ps : List Part)
+    → Without code (flatMap (partCommands s) Ps)
+parts-without s code h i j Ps =
+    all-parts s (record {
+      part = λ d m v. h;
+      factor = λ e t. i;
+      coefficients = λ f. all-coefficients (λ c. eqb (c .code) code ≡ false) (s .prime) 0 f (λ k v. j);
+    }) Ps
+
+-- ---- no coefficient follows a factor's own
+
+pub other-factors : (p : ℕ) (qs : List Factor) (cs : List Command) → NoCoefficient cs → NoCoefficient (flatMap (factorCommands p) qs ++ cs)
+unfolding flatMap factorCommands
+other-factors p [] cs o = o
+other-factors p (q ∷ qs) cs o = refl
+
+pub other-parts : (s : Sheet) (Ps : List Part) (cs : List Command) → NoCoefficient cs → NoCoefficient (flatMap (partCommands s) Ps ++ cs)
+unfolding flatMap partCommands
+other-parts s [] cs o = o
+other-parts s (P ∷ Ps) cs o = refl
+
+-- ---- the list
+
+-- the factors of commands, a factor or a part at a time
+factors-factor : (p : ℕ) (q : Factor) (cs : List Command)
+    → let more : List Command = coefficientCommands p 0 (lower (q .poly)) ++ cs in
+    factorsIn (factorCommands p q ++ cs) ≡ replicate (q .times) (withCoefficients (monomial (degree (q .poly))) more) ++ factorsIn more
+unfolding factorCommands factorsIn
+factors-factor p q cs = refl
+
+factors-part : (s : Sheet) (P : Part) (cs : List Command)
+    → factorsIn (partCommands s P ++ cs) ≡ factorsIn (flatMap (factorCommands (s .prime)) (P .splitting .factors) ++ cs)
+unfolding partCommands factorsIn
+factors-part s P cs = refl
+
+-- no factor stands in the head, nor after the parts
+factors-head : (s : Sheet) (cs : List Command) → factorsIn (headCommands s ++ cs) ≡ factorsIn cs
+unfolding headCommands factorsIn
+factors-head s cs = refl
+
+factors-end : (s : Sheet) (t : Totals) → factorsIn (endCommands s t) ≡ []
+unfolding endCommands factorsIn
+factors-end s t = refl
+
+other-end : (s : Sheet) (t : Totals) → NoCoefficient (endCommands s t)
+unfolding endCommands
+other-end s t = refl
+
+factors-back : {n : ℕ} (p : ℕ) (qs : List Factor) (cs : List Command) → All (λ (q : Factor). claimed.Monic n (q .poly)) qs → NoCoefficient cs
+    → factorsIn (flatMap (factorCommands p) qs ++ cs) ≡ flatMap copies qs ++ factorsIn cs
+factors-back p [] cs h o = unfold flatMap in refl
+factors-back p (q ∷ qs) cs h o =
+    let f : Poly = lower (q .poly) in
+    let more : List Command = flatMap (factorCommands p) qs ++ cs in
+    let back = written-back p (q .poly) more (h q (here refl)) (other-factors p qs cs o) in
+    let past = factors-past (coefficientCommands p 0 f) more (all-coefficients (λ c. eqb (c .code) 0x12 ≡ false) p 0 f (λ i v. refl)) in
+    simp (flatMap-cons, factors-factor, back, past, factors-back p qs cs (all-tail h) o, copies-cons, append-assoc)
+
+parts-back : {n : ℕ} (s : Sheet) (Ps : List Part) (cs : List Command) → MonicFactors n Ps → NoCoefficient cs
+    → factorsIn (flatMap (partCommands s) Ps ++ cs) ≡ listOf Ps ++ factorsIn cs
+parts-back s [] cs h o = unfold flatMap listOf in refl
+parts-back s (P ∷ Ps) cs h o =
+    let more = parts-back s Ps cs (all-tail h) o in
+    let back = factors-back (s .prime) (P .splitting .factors) (flatMap (partCommands s) Ps ++ cs) (h P (here refl)) (other-parts s Ps cs o) in
+    simp (flatMap-cons, factors-part, back, more, listOf-cons, append-assoc)
+
+-- ---- a sheet's answer
+
+module _ (s : Sheet) where
+  abbrev Ps : List Part
+  Ps = sheetParts s
+
+  -- an answer's bytes are cut into the commands they were made of
+  pub answer-commands : commands (answer s) ≡ answerCommands s Ps
+  unfolding answer
+  answer-commands = commands-back (answerCommands s Ps) (well-formed s Ps)
+
+  pub list-back : {n : ℕ} → MonicFactors n Ps → factorList (answer s) ≡ listOf Ps
+  unfolding factorList answerCommands
+  list-back h =
+      let end : List Command = endCommands s (totalsOf Ps) in
+      factorsIn (commands (answer s)) ≡⟨ ap factorsIn answer-commands ⟩
+      factorsIn (headCommands s ++ (flatMap (partCommands s) Ps ++ end)) ≡⟨ factors-head s (flatMap (partCommands s) Ps ++ end) ⟩
+      factorsIn (flatMap (partCommands s) Ps ++ end) ≡⟨ parts-back s Ps end h (other-end s (totalsOf Ps)) ⟩
+      listOf Ps ++ factorsIn end ≡⟨ ap (λ (l : List Poly). listOf Ps ++ l) (factors-end s (totalsOf Ps)) ⟩
+      listOf Ps ++ [] ≡⟨ append-nil (listOf Ps) ⟩
+      listOf Ps ∎
+
+  -- the first command with a code that stands in the head or in the end alone
+  pub head-back : firstWith 0x01 (commands (answer s)) ≡ command 0x01 (s .prime ∷ [])
+  head-back = rw answer-commands (unfold answerCommands headCommands firstWith first in refl)
+
+  end-back : (code : ℕ) → eqb 0x11 code ≡ false → eqb 0x12 code ≡ false → eqb (coefficientCode (s .prime)) code ≡ false → Without code (headCommands s)
+      → firstWith code (commands (answer s)) ≡ firstWith code (endCommands s (totalsOf Ps))
+  unfolding answerCommands
+  end-back code h i j w =
+      ap (firstWith code) answer-commands
+      ∙ firstWith-past code (headCommands s) (flatMap (partCommands s) Ps ++ endCommands s (totalsOf Ps)) w
+      ∙ firstWith-past code (flatMap (partCommands s) Ps) (endCommands s (totalsOf Ps)) (parts-without s code h i j Ps)
+
+  totals : firstWith 0x13 (commands (answer s)) ≡ firstWith 0x13 (endCommands s (totalsOf Ps))
+  totals = end-back 0x13 refl refl refl (unfold headCommands in all-cons refl (all-cons refl (λ c i. elim i [ ])))
+
+  pub total-back : factorTotal (answer s) ≡ total Ps
+  unfolding factorTotal firstWith first endCommands
+  total-back = rw totals refl
+
+  pub different-back : differentTotal (answer s) ≡ different (listOf Ps)
+  unfolding differentTotal firstWith first endCommands
+  different-back = rw totals refl
+
+  pub free-back : freeTotal (answer s) ≡ freeDigits Ps
+  unfolding freeTotal firstWith first endCommands
+  free-back = rw totals refl
+
+  -- "Term 3 is read off bytes"
+  pub longest-in : {n : ℕ} → MonicFactors n Ps → claimed.Longest (s .prime ²) (s .poly) (listOf Ps) (total Ps) (different (listOf Ps))
+      → term3.LongestIn s (answer s)
+  longest-in h t = rw (list-back h, total-back, different-back) t

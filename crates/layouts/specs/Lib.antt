@@ -1,0 +1,16 @@
+pub mod CommandBytes
+pub mod ReaderLaws
+pub mod Operands
+pub mod ReaderBounds
+pub mod CoefficientBytes
+pub mod SheetLayout
+pub mod GoodSheets
+pub mod CoefficientsRead
+pub mod SheetsRead
+pub mod SheetLength
+pub mod SheetSize
+pub mod AnswerLayout
+pub mod CommandsReadBack
+pub mod AnswerReadBack
+pub mod AnswerSize
+pub mod AnswersAccepted

@@ -1,4 +1,0 @@
-pub mod Decimal
-pub mod Layout
-pub mod TextSize
-pub mod Printed

@@ -1,4 +1,0 @@
-pub mod Entries
-pub mod Places
-pub mod Parts
-pub mod Cases

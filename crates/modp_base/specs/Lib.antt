@@ -1,0 +1,2 @@
+pub mod SeparableLoop
+pub mod Bases

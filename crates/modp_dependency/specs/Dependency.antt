@@ -1,0 +1,136 @@
+-- The search of `least_dependency`: `Images p d images`, what it is given; `DependencyFound`, what it finds; its loop, `Searching`: the rows span the images of
+-- x^first, .., x^(i − 1), and these are independent; and `InHand`: the image of x^i is being reduced by them.
+-- Proves that the loop begins so, goes on so, and ends with the least dependency or with none. Assumes nothing.
+use mathlib.Core.Path.{_≡_, _∙_}
+use mathlib.Core.Bool.{Bool, true, false, true≢false}
+use mathlib.Core.List.{List, []}
+use Prim.Native.Nat.{ℕ, suc, _<_, _≤_, _-_, _+_}
+use native.Mathlib.Nat.{le-refl}
+use native.Mathlib.Numerals.{add-one}
+use native.Mathlib.Omega.{arith}
+use lib.Dec.{ltb}
+use lib.ListN.{length, getD, replicate, length-replicate}
+use borrow.Author.Tests.{ltb-true, ltb-false}
+use Rattle.algebra.specs.PolynomialRing.{𝟎}
+use Rattle.algebra.specs.Degree.{Below, below-zero}
+use Rattle.algebra.specs.Fields.{Prime, prime-pos}
+use Rattle.algebra.specs.CoefficientLists.{ℤ[x]/, poly, Reduced}
+use Rattle.arrays.specs.Sizes.{Size, below-size, size-small}
+use Rattle.arrays.specs.MonomialArray.{IsMonomial, monomial-represents}
+use Rattle.frobenius.specs.LinearMaps.{apply}
+use Rattle.frobenius.specs.RowReduction.{Between, Stage, reducing-none, reducing-down}
+use Rattle.frobenius.specs.LeastDependency.{LeastDependency, stage-found}
+use Rattle.modp_dependency.specs.declared.Image.{Image}
+use Rattle.modp_dependency.specs.declared.Row.{Row}
+use Rattle.modp_dependency.specs.declared.Found.{Found}
+use Rattle.modp_dependency.specs.StoredRows.{past, free, imageAt, preimageAt, ReducedRows, slot-free, stage-free, free-reduced}
+use Rattle.modp_dependency.specs.Reduction.{ReducedTo}
+use Rattle.modp_dependency.specs.Storing.{Stored, reduced-stored, stage-stored}
+
+-- the coefficients of the image of x^k
+abbrev pub coefsOf : List Image → ℕ → List ℕ
+coefsOf images k = (getD images k (record { coefs = [] })) .coefs
+
+-- the map's images of the x^k
+abbrev pub imageOf : (p : ℕ) → List Image → ℕ → ℤ[x]/ p
+imageOf p images k = poly p (coefsOf images k)
+
+-- images of the x^k below x^d, in polynomials of degree below d
+pub record Images (p d : ℕ) (images : List Image) : Type 0 where
+  pub reduced : (k : ℕ) → k < d → Reduced p 33 (coefsOf images k)
+  pub small : (k : ℕ) → k < d → Below d (imageOf p images k)
+
+-- a dependency found
+pub record Least (p : ℕ) (images : List Image) (first d : ℕ) (r : Found) : Type 0 where
+  pub reduced : Reduced p 33 (r .v)
+  pub above : first ≤ r .degree
+  pub within : r .degree < d
+  pub least : LeastDependency (imageOf p images) d first (r .degree) (poly p (r .v))
+
+-- the map is injective on the polynomials with terms of degree first to d − 1 where none is found
+pub record DependencyFound (p : ℕ) (images : List Image) (first d : ℕ) (r : Found) : Type 0 where
+  pub found : r .found ≡ true → Least p images first d r
+  pub none : r .found ≡ false → (v : ℤ[x]/ p) → Between first d v → apply (imageOf p images) d v ≡ 𝟎 → v ≡ 𝟎
+
+pub record Searching (p : ℕ) (images : List Image) (first d i : ℕ) (rows : List Row) : Type 0 where
+  pub above : first ≤ i
+  pub within : i ≤ d
+  pub slots : length rows ≡ 33
+  pub reduced : ReducedRows p rows
+  pub stage : Stage (imageOf p images) d d first (imageAt p rows) (preimageAt p rows) i
+
+-- the image of x^i is in hand, reduced to k terms, unless it is fresh
+pub record InHand (p : ℕ) (images : List Image) (first d i : ℕ) (rows : List Row) (image preimage : List ℕ) (k : ℕ) (fresh : Bool) : Type 0 where
+  pub limit : k ≤ 33
+  pub reduced : fresh ≡ false → ReducedTo p (imageOf p images) first d i rows k (record { image = image; preimage = preimage })
+
+module _ {p : ℕ} {images : List Image} {first d i : ℕ} {rows : List Row} {image preimage : List ℕ} {k : ℕ} where
+  pub none-in-hand : k ≤ 33 → InHand p images first d i rows image preimage k true
+  none-in-hand l = record { limit = l; reduced = λ q. absurd (true≢false q) }
+
+  pub in-hand : {fresh : Bool} → ReducedTo p (imageOf p images) first d i rows k (record { image = image; preimage = preimage })
+      → InHand p images first d i rows image preimage k fresh
+  in-hand R = record { limit = R .size .limit; reduced = λ q. R }
+
+pub searching-none : {p : ℕ} {images : List Image} {first d : ℕ} {rows : List Row} → Prime p → first ≤ d → rows ≡ replicate 33 free
+    → Searching p images first d first rows
+searching-none {p} {first = first} P l e = rw e (record {
+  above = le-refl first;
+  within = l;
+  slots = length-replicate {A = Row} 33 free;
+  reduced = free-reduced (prime-pos P);
+  stage = stage-free p;
+})
+
+-- nothing is taken off the image of x^i yet
+pub reduced-none : {p : ℕ} {images : List Image} {first d i : ℕ} {rows : List Row} {x : List ℕ} {k : ℕ} → Prime p → Images p d images → i < d
+    → Searching p images first d i rows → IsMonomial i x → Size (coefsOf images i) k
+    → ReducedTo p (imageOf p images) first d i rows k (record { image = coefsOf images i; preimage = x })
+reduced-none {p} {images} {first} {d} {i} {k = k} P I l S X z = record {
+  reach = reach;
+  image = I .reduced i l;
+  size = z;
+  preimage = monomial-represents X (P .large) .reduced;
+  reducing = reducing-down (imageOf p images) d d first reach (below-size p z)
+      (rw (monomial-represents X (P .large) .is) (reducing-none (imageOf p images) d d first (S .above) l));
+}
+  where
+    reach : k ≤ d
+    reach = size-small (I .reduced i l) (I .small i l) z
+
+-- the image of x^i is reduced to v, with k terms
+module _ {p : ℕ} (P : Prime p) {images : List Image} {first d i : ℕ} {rows : List Row} {k : ℕ} {v : Row} (l : i < d)
+    (S : Searching p images first d i rows) (R : ReducedTo p (imageOf p images) first d i rows k v) where
+  pub searching-found : k ≡ 0 → DependencyFound p images first d (record { found = ltb i d; degree = i; v = v .preimage })
+  searching-found e = record {
+    found = λ q. record {
+      reduced = R .preimage;
+      above = S .above;
+      within = l;
+      least = stage-found (imageOf p images) d d first (S .stage) (rw e at (R .reducing)) (below-zero (rw e at (below-size p (R .size))));
+    };
+    none = λ q. absurd (omega (arith, ltb-false i d q));
+  }
+
+  -- its slot is free
+  pub searching-more : {r : List Row} → 0 < k → getD ((getD rows (k - 1) past) .image) (k - 1) 0 ≡ 0 → Stored p rows v (k - 1) r
+      → Searching p images first d (i + 1) r
+  searching-more pos e h = record {
+    above = omega (arith, S .above);
+    within = omega arith;
+    slots = h .len ∙ S .slots;
+    reduced = reduced-stored P (S .reduced) h;
+    stage = rw add-one
+        (stage-stored P (S .above) l (omega (arith, R .reach)) (omega arith) (slot-free rows (k - 1) (S .stage .slots (k - 1)) (P .large) e)
+        (rw next (below-size p (R .size))) (S .stage) (R .reducing) h);
+  }
+    where
+      next : suc (k - 1) ≡ k
+      next = omega arith
+
+pub searching-done : {p : ℕ} {images : List Image} {first d i : ℕ} {rows : List Row} {v : List ℕ} → d ≤ i → Searching p images first d i rows
+    → DependencyFound p images first d (record { found = ltb i d; degree = i; v = v })
+searching-done {d = d} {i} l S = record { found = λ q. absurd (omega (arith, ltb-true i d q)); none = λ q. rw e at (S .stage .injective) }
+  where
+    e : i ≡ d
+    e = omega (arith, S .within)

@@ -1,0 +1,4 @@
+pub mod StoredRows
+pub mod Reduction
+pub mod Storing
+pub mod Dependency

@@ -1,0 +1,3 @@
+pub mod AddMultiple
+pub mod Entrywise
+pub mod ProductLoop

@@ -1,0 +1,4 @@
+pub mod ArrayOrder
+pub mod ArrayPieces
+pub mod FoundParts
+pub mod Progress

@@ -1,0 +1,4 @@
+pub mod Given
+pub mod Cofactors
+pub mod AsPart
+pub mod ByItems

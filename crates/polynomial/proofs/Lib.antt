@@ -1,0 +1,5 @@
+pub mod Accepted
+pub mod DivisionResult
+pub mod RecordLaws
+pub mod Results
+pub mod ArithmeticLaws

@@ -1,0 +1,2 @@
+pub mod HornerLoop
+pub mod PowerTurns

@@ -1,0 +1,7 @@
+pub mod Numberings
+pub mod DigitStrings
+pub mod NumberedLifts
+pub mod PartLists
+pub mod PartSettings
+pub mod JoinedSettings
+pub mod SettingsCounted

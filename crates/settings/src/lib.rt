@@ -1,0 +1,1 @@
+// How many settings there are: theorems only, in specs/.

@@ -1,0 +1,4 @@
+pub mod AsSheetRead
+pub mod Steps
+pub mod Underway
+pub mod Stages

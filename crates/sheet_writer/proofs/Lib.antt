@@ -1,0 +1,2 @@
+pub mod CoefficientsWritten
+pub mod SheetWritten

@@ -1,0 +1,4 @@
+pub mod Decimal
+pub mod TextArrays
+pub mod TextSize
+pub mod Printed

@@ -1,0 +1,77 @@
+-- The lines of an answer over the code's arrays, as they are written one after the other.
+-- Proves that they are those of the definitions. Assumes nothing.
+use mathlib.Core.Path.{_≡_, refl, sym, ap, ap₂}
+use mathlib.Core.List.{List, [], _∷_, _++_, map, flatMap}
+use Prim.Native.Nat.{ℕ, _≤_, _+_}
+use native.Mathlib.Numerals.{add-one}
+use native.Mathlib.Omega.{arith}
+use lib.ListN.{length, getD, take}
+use lib.Seq.{take-suc}
+use Rattle.specification.specs.Text.{ascii, item, headText, verdictText, coefficientText, factorText, partText, totalText, partsText, answerText}
+use Rattle.arrays.specs.Listed.{degree-listed}
+use Rattle.part_verdict.specs.declared.Factor.{Factor}
+use Rattle.part_verdict.specs.declared.Part.{Part}
+use Rattle.part_verdict.specs.AsPart.{asVerdict, asFactor, asFactors, asPart}
+use Rattle.part_list.specs.declared.Parts.{Parts}
+use Rattle.layouts.specs.AnswerLayout.{sheetParts}
+use Rattle.commands.specs.declared.Sheet.{Sheet}
+use Rattle.commands.specs.AsSheet.{asSheet}
+use Rattle.area.proofs.Turns.{Turns, each-turn}
+use Rattle.answer_writer.specs.declared.Totals.{Totals}
+use Rattle.answer_writer.specs.AnswerArrays.{asTotals, TotalsOf}
+use Rattle.lists.specs.FlatMaps.{flatMap-map}
+use Rattle.answer_writer.specs.Writable.{heldParts}
+
+-- ---- words
+
+-- a loop writes a word byte by byte
+pub word-turns : (w : List ℕ) → Turns (λ i. take i w) (λ i. getD w i 0 ∷ []) (length w)
+word-turns w = record { none = refl; next = λ i u. take-suc w i 0 u }
+
+-- ---- a factor and a part
+
+pub coefficient-turns : (f : List ℕ) (n : ℕ) → n ≤ length f → Turns (λ i. coefficientText (take i f)) (λ i. item " " (getD f i 0)) n
+unfolding coefficientText
+coefficient-turns f n l = each-turn (item " ") 0 f n l
+
+-- "coefficients from the constant up to the leading 1"
+pub factor-is : (q : Factor) → item "factor " (q .times) ++ coefficientText (take (q .degree + 1) (q .coefs)) ++ ascii "\n" ≡ factorText (asFactor q)
+unfolding factorText
+factor-is q = ap (λ k. item "factor " (q .times) ++ coefficientText (take k (q .coefs)) ++ ascii "\n") (add-one (q .degree))
+
+pub part-is : (x : Part) → length (x .base) ≡ 33 → x .degree ≤ 32
+    → item "part " (x .degree) ++ item " " (x .exponent) ++ verdictText (asVerdict (x .verdict))
+    ++ flatMap factorText (asFactors (x .verdict) (x .first) (x .second)) ≡ partText (asPart x)
+unfolding partText
+part-is x long l =
+    let factors = flatMap factorText (asFactors (x .verdict) (x .first) (x .second)) in
+    ap (λ d. item "part " d ++ item " " (x .exponent) ++ verdictText (asVerdict (x .verdict)) ++ factors)
+    (sym (degree-listed (x .degree) (x .base) (omega arith)))
+
+-- ---- the whole
+
+-- the lines of one of the code's parts
+abbrev pub partLines : Part → List ℕ
+partLines x = partText (asPart x)
+
+-- and of its list
+abbrev pub heldText : List Part → List ℕ
+heldText xs = flatMap partLines xs
+
+-- "The last line holds the three totals"
+pub totals-are : (t : Totals)
+    → item "total " (t .factors) ++ item " different " (t .different) ++ item " free " (t .free) ++ ascii "\n" ≡ totalText (asTotals t)
+unfolding totalText
+totals-are t = refl
+
+pub lines-are : (s : Sheet) → length (s .coefs) ≡ 33 → s .degree ≤ 32 → (xs : List Part) {t : Totals} → TotalsOf (map asPart xs) t
+    → headText (s .prime) (s .degree) ++ heldText xs ++ totalText (asTotals t) ≡ partsText (asSheet s) (map asPart xs)
+unfolding partsText
+lines-are s long l xs e =
+    rw (degree-listed (s .degree) (s .coefs) (omega arith))
+    (ap₂ (λ (parts totals : List ℕ). headText (s .prime) (s .degree) ++ parts ++ totals) (sym (flatMap-map partText asPart xs)) (ap totalText e))
+
+-- the lines of a sheet's own parts
+pub text-of-sheet : (s : Sheet) (a : Parts) → heldParts a ≡ sheetParts (asSheet s) → partsText (asSheet s) (heldParts a) ≡ answerText (asSheet s)
+unfolding answerText
+text-of-sheet s a is = ap (partsText (asSheet s)) is

@@ -1,4 +1,0 @@
-pub mod Area
-pub mod Turns
-pub mod Coefficients
-pub mod Sheets
