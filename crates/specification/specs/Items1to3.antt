@@ -62,7 +62,7 @@ pub record PowersInAnyOrder (p : ℕ) (f : Poly) (Ps : List Power) : Type 0 wher
   pub different : Pairwise (λ (P Q : Power). P .base ≢ Q .base) Ps
   pub multiplies : product p (map (powerOf p) Ps) ≡ f
 
--- document 002, Theorem 2.2: "f is primary" where its bar is "uG^m for some unit u .., m ≥ 1 and G .. prime"; here f is monic, so u is 1
+-- document 002, Theorem 2.2: "f is primary" where its bar is "uG^m for some unit u .., m ≥ 1 and G .. prime"; here q is monic, so u is 1
 pub record Primary (p : ℕ) (q : Poly) : Type 0 where
   pub monic : Monic (p ²) q
   pub power : Power

@@ -20,7 +20,7 @@ pub record HasParts (a : PolyRecord) : Type 0 where
   pub monic : leading (polynomial a) ≡ 1
   pub positive : size a ≡ 1 → ⊥
 
--- a record that is taken, with the number of its terms
+-- a record that has parts, with the number of its terms
 module _ (a : PolyRecord) (t : HasParts a) {s : ℕ} (z : Size (a .coefficients) s) where
   pub positive : 1 < s
   positive = ⊎-elim (λ l. l) (λ l. absurd (t .positive (omega (arith, length-trim z, monic-size z (t .monic))))) (lt-or-le 1 s)
