@@ -41,7 +41,7 @@ static int strike_out(nmod_poly_factor_t factors, const uint8_t *at, unsigned pr
 
 static size_t command_length(uint8_t command)
 {
-    return command == PART || command == 0x13 ? 4 : command == FACTOR || command == COEFFICIENT ? 3 : command == 0x0F ? 1 : 2;
+    return command == PART || command == 0x13 ? 4 : command == FACTOR || command == COEFFICIENT || command == 0x14 ? 3 : command == 0x0F ? 1 : 2;
 }
 
 int agrees(const polynomial *f, const uint8_t *answer, size_t length)

@@ -1,6 +1,7 @@
 /* Times `kuzhmader_split` (the whole answer, from bytes to bytes) and FLINT's `nmod_poly_factor` (of the bar, modulo p) in one process on
  * the same polynomials of degree 32. A polynomial's time is the best of five rounds of repeated calls; a line has the medians over a kind.
- * Ends with status 1 if an answer disagrees with FLINT, or if 64 KiB of stack are not enough. */
+ * Then the random ones, without 0x04 and with it, and a plain walk to the run length, which is above 65,535 for nearly all of them.
+ * Ends with status 1 if an answer disagrees with FLINT or a run length with the walk, or if 64 KiB of stack are not enough. */
 #include <inttypes.h>
 #include <stdio.h>
 #include <stdlib.h>
@@ -48,6 +49,27 @@ static double flint_calls(const polynomial *f, int calls)
     return taken;
 }
 
+/* Nanoseconds for some walks of a kind. */
+static double walks(unsigned (*walk)(const polynomial *), const polynomial *f, int calls)
+{
+    static volatile unsigned run;
+    double start = now();
+    for (int i = 0; i < calls; i++)
+        run = walk(f);
+    (void)run;
+    return now() - start;
+}
+
+static double plain_walks(const polynomial *f, int calls)
+{
+    return walks(plain_walk, f, calls);
+}
+
+static double table_walks(const polynomial *f, int calls)
+{
+    return walks(table_walk, f, calls);
+}
+
 /* Microseconds of one call: the best of the rounds. The first two calls warm up, and settle how many calls make a round. */
 static double timed(double (*calls)(const polynomial *, int), const polynomial *f)
 {
@@ -85,33 +107,56 @@ static void time_kind(unsigned p, unsigned kind)
     fflush(stdout);
 }
 
-/* How many answers agree with FLINT; the checksum of all answers' bytes (FNV-1a) tells two builds apart. */
-static int compared(uint64_t *checksum)
+/* What 0x04 costs: medians of a split without it and with it, of what the second takes more, and of the walks. */
+static void time_runs(unsigned p)
+{
+    static double without[EACH], with[EACH], more[EACH], plain[EACH], table[EACH];
+    int within = 0;
+    for (int i = 0; i < EACH; i++) {
+        without[i] = timed(split_calls, &without_run[p][i]);
+        with[i] = timed(split_calls, &with_run[p][i]);
+        more[i] = with[i] - without[i];
+        plain[i] = timed(plain_walks, &with_run[p][i]);
+        table[i] = timed(table_walks, &with_run[p][i]);
+        within += table_walk(&with_run[p][i]) != 0;
+    }
+    double shorter = median(without), longer = median(with), run = median(more);
+    printf("%5u  %13.1f %12.1f %12.1f %12.1f %12.1f   (slowest run %.1f; %d of %d up to %d)\n", primes[p], shorter, longer, run, median(plain),
+           median(table), more[EACH - 1], within, EACH, RUN_LIMIT);
+    fflush(stdout);
+}
+
+/* How many of the answers agree; the checksum of their bytes (FNV-1a) tells two builds apart. */
+static int compared(const polynomial *f, int count, int (*good)(const polynomial *, const uint8_t *, size_t), uint64_t *checksum)
 {
     uint8_t area[KUZHMADER_AREA];
-    const polynomial *f = &polynomials[0][0][0];
     int agreed = 0;
     *checksum = 0xCBF29CE484222325u;
-    for (int i = 0; i < PRIMES * KINDS * EACH; i++) {
+    for (int i = 0; i < count; i++) {
         kuzhmader_outcome outcome = kuzhmader_split(f[i].sheet, f[i].sheet_length, area, KUZHMADER_AREA);
         for (size_t k = 0; k < outcome.count; k++)
             *checksum = (*checksum ^ area[k]) * 0x100000001B3u;
-        agreed += outcome.number == KUZHMADER_DONE && agrees(f + i, area, outcome.count);
+        agreed += outcome.number == KUZHMADER_DONE && good(f + i, area, outcome.count);
     }
     return agreed;
 }
 
 int main(void)
 {
-    uint64_t checksum;
+    uint64_t checksum, of_runs;
     make_polynomials();
-    int agreed = compared(&checksum);
+    int agreed = compared(&polynomials[0][0][0], PRIMES * KINDS * EACH, agrees, &checksum);
+    int runs = compared(&with_run[0][0], PRIMES * EACH, run_agrees, &of_runs);
     printf("parts that agree with FLINT %s: %d of %d, checksum of the answers %016" PRIx64 "\n", FLINT_VERSION, agreed, PRIMES * KINDS * EACH, checksum);
+    printf("run lengths that agree with a walk: %d of %d, checksum of the answers %016" PRIx64 "\n", runs, PRIMES * EACH, of_runs);
     printf("prime  kind      library µs     FLINT µs    ratio   medians of %d polynomials of degree %d\n", EACH, DEGREE);
     for (unsigned p = 0; p < PRIMES; p++)
         for (unsigned kind = 0; kind < KINDS; kind++)
             time_kind(p, kind);
+    printf("prime  without 04 µs   with 04 µs       run µs      walk µs     table µs   medians of %d random polynomials of degree %d\n", EACH, DEGREE);
+    for (unsigned p = 0; p < PRIMES; p++)
+        time_runs(p);
     size_t used = stack_used();
     printf("stack touched by split and read: %zu bytes, limit %d\n", used, STACK_LIMIT);
-    return agreed != PRIMES * KINDS * EACH || used >= STACK_LIMIT;
+    return agreed != PRIMES * KINDS * EACH || runs != PRIMES * EACH || used >= STACK_LIMIT;
 }

@@ -1,4 +1,4 @@
-/* What the files of the benchmark share: the polynomials, the comparison with FLINT, the stack. */
+/* What the files of the benchmark share: the polynomials, the comparisons with FLINT and with a walk, the stack. */
 #ifndef BENCH_H
 #define BENCH_H
 
@@ -7,10 +7,11 @@
 #include "kuzhmader.h"
 
 #define DEGREE KUZHMADER_LIMIT
-#define SHEET_BYTES (5 + 3 * DEGREE)
+#define SHEET_BYTES (6 + 3 * DEGREE)
 #define PRIMES 2
 #define KINDS 3
 #define EACH 200
+#define RUN_LIMIT 65535
 
 /* A monic polynomial of degree 32 modulo p², constant first, and its sheet. */
 typedef struct {
@@ -25,6 +26,8 @@ extern const char *const kinds[KINDS];
 
 /* The polynomials of all kinds for all primes: the same ones in every run. */
 extern polynomial polynomials[PRIMES][KINDS][EACH];
+/* The random ones again, with a constant coefficient that p does not divide, first without 0x04 and then with it. */
+extern polynomial without_run[PRIMES][EACH], with_run[PRIMES][EACH];
 void make_polynomials(void);
 
 /* The bar of f for FLINT; `bar` is not initialised before. */
@@ -33,7 +36,14 @@ void make_bar(nmod_poly_t bar, const polynomial *f);
 /* Whether an answer's parts are the powers of irreducible polynomials that FLINT finds in the bar. */
 int agrees(const polynomial *f, const uint8_t *answer, size_t length);
 
-/* Bytes of stack that splitting all polynomials, and reading all answers, touches at most. */
+/* The run length of f, by a walk of at most RUN_LIMIT pulses; 0 if it is longer. The second takes its multiples of f from a table, and adds bytes. */
+unsigned plain_walk(const polynomial *f);
+unsigned table_walk(const polynomial *f);
+
+/* Whether an answer's run length is that of a walk. */
+int run_agrees(const polynomial *f, const uint8_t *answer, size_t length);
+
+/* Bytes of stack that splitting all polynomials, with 0x04 too, and reading all answers, touches at most. */
 size_t stack_used(void);
 
 #endif

@@ -5,7 +5,7 @@
 
 const unsigned primes[PRIMES] = {2, 7};
 const char *const kinds[KINDS] = {"random", "linear", "powers"};
-polynomial polynomials[PRIMES][KINDS][EACH];
+polynomial polynomials[PRIMES][KINDS][EACH], without_run[PRIMES][EACH], with_run[PRIMES][EACH];
 
 static uint64_t state = 20050101;
 
@@ -63,13 +63,15 @@ static void make_powers(unsigned *f, unsigned n)
     multiply(f, &top, g, DEGREE - top, n);
 }
 
-static void write_sheet(polynomial *f)
+static void write_sheet(polynomial *f, int run)
 {
     uint8_t *at = f->sheet;
     *at++ = 0x01, *at++ = (uint8_t)f->prime, *at++ = 0x02, *at++ = DEGREE;
     for (unsigned i = 0; i < DEGREE; i++)
         if (f->coefs[i] != 0)
             *at++ = 0x03, *at++ = (uint8_t)i, *at++ = (uint8_t)f->coefs[i];
+    if (run)
+        *at++ = 0x04;
     *at++ = 0x0F;
     f->sheet_length = (size_t)(at - f->sheet);
 }
@@ -84,7 +86,18 @@ static void make(polynomial *f, unsigned prime, unsigned kind)
         make_linear(f->coefs, n);
     else
         make_powers(f->coefs, n);
-    write_sheet(f);
+    write_sheet(f, 0);
+}
+
+/* The i-th random polynomial, its constant coefficient larger by 1 where p divides it. */
+static void make_with_run(unsigned p, unsigned i)
+{
+    polynomial f = polynomials[p][0][i];
+    if (f.coefs[0] % f.prime == 0)
+        f.coefs[0]++;
+    without_run[p][i] = with_run[p][i] = f;
+    write_sheet(&without_run[p][i], 0);
+    write_sheet(&with_run[p][i], 1);
 }
 
 void make_polynomials(void)
@@ -93,4 +106,7 @@ void make_polynomials(void)
         for (unsigned kind = 0; kind < KINDS; kind++)
             for (unsigned i = 0; i < EACH; i++)
                 make(&polynomials[p][kind][i], primes[p], kind);
+    for (unsigned p = 0; p < PRIMES; p++)
+        for (unsigned i = 0; i < EACH; i++)
+            make_with_run(p, i);
 }

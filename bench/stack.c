@@ -12,15 +12,21 @@
 static uint8_t answers[2][KUZHMADER_AREA];
 static uintptr_t caller;
 
+/* Splits polynomials and reads their answers. */
+static void split_and_read(const polynomial *f, size_t count)
+{
+    for (size_t i = 0; i < count; i++) {
+        kuzhmader_outcome split = kuzhmader_split(f[i].sheet, f[i].sheet_length, answers[0], KUZHMADER_AREA);
+        kuzhmader_read(answers[0], split.count, answers[1], KUZHMADER_AREA);
+    }
+}
+
 static void *split_all(void *argument)
 {
     uint8_t here;
     caller = (uintptr_t)&here;
-    polynomial *f = &polynomials[0][0][0];
-    for (size_t i = 0; i < PRIMES * KINDS * EACH; i++) {
-        kuzhmader_outcome split = kuzhmader_split(f[i].sheet, f[i].sheet_length, answers[0], KUZHMADER_AREA);
-        kuzhmader_read(answers[0], split.count, answers[1], KUZHMADER_AREA);
-    }
+    split_and_read(&polynomials[0][0][0], PRIMES * KINDS * EACH);
+    split_and_read(&with_run[0][0], PRIMES * EACH);
     return argument;
 }
 

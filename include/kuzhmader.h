@@ -1,5 +1,5 @@
 /* The pattern splitter's C interface: factor lists modulo the square of a prime. Link with target/staticlib/libkuzhmader.a, which
- * `rt staticlib kuzhmader` writes. Sheets, answers, numbers and places are those of document 01.
+ * `rt staticlib kuzhmader` writes. Sheets, answers, numbers and places are those of documents 01 and 02.
  *
  * Rules for all calls:
  * - The first two arguments are lent to be read and are never changed. The last two are the answer area.
@@ -24,7 +24,7 @@ extern "C" {
 #define KUZHMADER_AREA 384
 #define KUZHMADER_LIMIT 32
 
-/* Document 01's numbers. `kuzhmader_split` gives 0 to 8, `kuzhmader_read` gives 0, 1 and 9; 10 to 13 belong to the arithmetic. */
+/* The numbers of documents 01 and 02. `kuzhmader_split` gives 0 to 8 and 14, `kuzhmader_read` gives 0, 1 and 9; 10 to 13 belong to the arithmetic. */
 enum kuzhmader_number {
     KUZHMADER_DONE = 0,
     KUZHMADER_AREA_TOO_SHORT = 1,     /* the answer area is shorter than KUZHMADER_AREA; place 0 */
@@ -39,7 +39,8 @@ enum kuzhmader_number {
     KUZHMADER_NOT_PROPER = 10,        /* a record handed to the arithmetic is not proper */
     KUZHMADER_PRIMES_DIFFER = 11,     /* the two records' primes differ */
     KUZHMADER_PRODUCT_TOO_HIGH = 12,  /* neither factor of a product is zero and their degrees add to more than 32 */
-    KUZHMADER_DIVISOR_NOT_MONIC = 13  /* the divisor is not monic */
+    KUZHMADER_DIVISOR_NOT_MONIC = 13, /* the divisor is not monic */
+    KUZHMADER_NO_RUN = 14             /* the run length is asked for, and p divides the constant coefficient; the place is that of 0x04 */
 };
 
 typedef struct {
@@ -48,10 +49,11 @@ typedef struct {
     size_t count;
 } kuzhmader_outcome;
 
-/* From a sheet to its answer. */
+/* From a sheet to its answer. A sheet with 0x04 just before its 0x0F asks for its run length: the answer then has 0x14 before its 0x0F, and the
+ * number in two bytes, low byte first, 0 if it is above 65,535. */
 kuzhmader_outcome kuzhmader_split(const uint8_t *sheet, size_t sheet_length, uint8_t *area, size_t area_length);
 
-/* From an answer back to its sheet. */
+/* From an answer back to its sheet, with 0x04 if the answer has 0x14. */
 kuzhmader_outcome kuzhmader_read(const uint8_t *answer, size_t answer_length, uint8_t *area, size_t area_length);
 
 /* The same two calls where a pointer may be null if its length is 0, as C has it for no bytes: a byte is then lent in its place, which is

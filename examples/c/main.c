@@ -1,10 +1,11 @@
-/* Splits document 01's example, x³ + 6x² + 4 modulo 9, prints the answer as the program `split` does, and reads the answer back. */
+/* Splits document 01's example, x³ + 6x² + 4 modulo 9, and asks for its run length; prints the answer as the program `split` does, and reads the
+ * answer back. */
 #include <stdio.h>
 #include <string.h>
 
 #include "kuzhmader.h"
 
-static const uint8_t sheet[] = {0x01, 3, 0x02, 3, 0x03, 0, 4, 0x03, 2, 6, 0x0F};
+static const uint8_t sheet[] = {0x01, 3, 0x02, 3, 0x03, 0, 4, 0x03, 2, 6, 0x04, 0x0F};
 
 static const char *const verdicts[] = {"", "basic", "solid", "power", "split"};
 
@@ -32,6 +33,9 @@ static void print_answer(const uint8_t *at)
         } else
             at = print_factor(at);
     printf("total %u different %u free %u\n", at[1], at[2], at[3]);
+    at += 4;
+    if (*at == 0x14)
+        printf("run %u\n", at[1] + 256u * at[2]);
 }
 
 int main(void)

@@ -1,4 +1,5 @@
-//! Splits document 01's example, x³ + 6x² + 4 modulo 9, prints the answer as the program `split` does, and reads the answer back.
+//! Splits document 01's example, x³ + 6x² + 4 modulo 9, and asks for its run length; prints the answer as the program `split` does, and reads the
+//! answer back.
 //! `split` and `read` here are safe: a slice is never null, and two slices of which one may be changed never overlap.
 
 /// Number, place and count, as in include/kuzhmader.h.
@@ -27,7 +28,7 @@ fn read(answer: &[u8], area: &mut [u8]) -> Outcome {
     unsafe { kuzhmader_read(answer.as_ptr(), answer.len(), area.as_mut_ptr(), area.len()) }
 }
 
-const SHEET: [u8; 11] = [0x01, 3, 0x02, 3, 0x03, 0, 4, 0x03, 2, 6, 0x0F];
+const SHEET: [u8; 12] = [0x01, 3, 0x02, 3, 0x03, 0, 4, 0x03, 2, 6, 0x04, 0x0F];
 const VERDICTS: [&str; 5] = ["", "basic", "solid", "power", "split"];
 
 /// Prints the factor that the answer begins with, and gives what follows its coefficients.
@@ -55,6 +56,9 @@ fn print_answer(answer: &[u8]) {
         }
     }
     println!("total {} different {} free {}", rest[1], rest[2], rest[3]);
+    if rest[4] == 0x14 {
+        println!("run {}", u16::from_le_bytes([rest[5], rest[6]]));
+    }
 }
 
 fn main() {

@@ -1,35 +1,55 @@
-"""Inputs for the built library: good sheets and answers of all kinds, damaged ones, and random bytes."""
+"""Inputs for the built library: good sheets and answers of all kinds, with 0x04 and 0x14 and without, damaged ones, and random bytes."""
 
 import random
 from typing import Iterator, NamedTuple, Sequence
 
-from answers import answer_bytes
+from answers import RUN_LENGTH, answer_bytes
 from arithmetic import LIMIT, TAKEN_PRIMES
 from byte_strings import TELLING, damaged, some_bytes
 from polynomial_cases import all_sheets, some_monic
 from sheet_cases import AREAS, Call, short_sheets
-from sheets import Sheet, read_sheet, sheet_bytes
+from sheets import END, RUN, Refusal, Sheet, read_sheet, sheet_bytes
 from splitter import AREA
 
-COMMANDS = (0, 1, 2, 3, 4, 15, 17, 18, 19)
+COMMANDS = (0, 1, 2, 3, 4, 15, 17, 18, 19, 20)
 
 
 class Pools(NamedTuple):
-    """What inputs are made from: good sheets of all kinds, short ones, those of degree 32, and answers."""
+    """What inputs are made from: good sheets of all kinds, short ones, those of degree 32, each with 0x04 or without, and answers."""
 
     sheets: list
     short: list
     full: list
     answers: list
+    runs: list
+
+
+def asking(data: bytes) -> bytes:
+    """A sheet with 0x04 before its end, whether it may have it or not."""
+    return data[:-1] + bytes([RUN, END])
+
+
+def accepted(sheets: Sequence[bytes]) -> list:
+    """Those that are not refused."""
+    found = []
+    for data in sheets:
+        try:
+            read_sheet(data)
+            found.append(data)
+        except Refusal:
+            pass
+    return found
 
 
 def pools(source: random.Random) -> Pools:
-    """The pools of one run."""
+    """The pools of one run. Two of three short and full sheets are as they were, the others ask for their run, and may be refused with 14."""
     good = [sheet_bytes(sheet) for sheet in all_sheets()]
+    asked = accepted(map(asking, source.sample(good, 2000)))
     short = short_sheets(source, 4000)
     full = [sheet_bytes(Sheet(p, some_monic(source, p * p, LIMIT))) for p in TAKEN_PRIMES for _ in range(50)]
     answers = [answer_bytes(read_sheet(data)) for data in source.sample(good, 1500) + short[:1500] + full]
-    return Pools(good, short, full, answers)
+    runs = [answer_bytes(read_sheet(data)) for data in asked[:700] + accepted(map(asking, short[:1500])) + accepted(map(asking, full[::4]))]
+    return Pools(good + asked, short + [asking(data) for data in short[::2]], full + [asking(data) for data in full[::2]], answers + runs, runs)
 
 
 def some_area(source: random.Random) -> int:
@@ -66,11 +86,19 @@ def some_sheet(source: random.Random, pool: Pools) -> bytes:
     return picked(source, kinds)
 
 
+def another_run(source: random.Random, answer: bytes) -> bytes:
+    """An answer with another operand of 0x14, most often a small one; or with one more 0x14 somewhere."""
+    command = bytes([RUN_LENGTH]) + source.choice((source.randrange(65536), source.randrange(40))).to_bytes(2, "little")
+    place = source.choice((len(answer) - 4, len(answer) - 4, source.randrange(len(answer))))
+    return answer[:place] + command + answer[place + 3 * (place == len(answer) - 4) :]
+
+
 def some_answer(source: random.Random, pool: Pools) -> bytes:
-    """A string for the answer reader: one in ten good, most damaged, some random, some sheets."""
+    """A string for the answer reader: one in ten good, most damaged, some with another run, some random, some sheets."""
     kinds = (
         (10, lambda: source.choice(pool.answers)),
-        (70, lambda: damaged(source, source.choice(pool.answers))),
+        (65, lambda: damaged(source, source.choice(pool.answers))),
+        (5, lambda: another_run(source, source.choice(pool.runs))),
         (10, lambda: source.choice(pool.short)),
         (10, lambda: headed(source, 8, 30, (*COMMANDS, *TELLING))),
     )

@@ -1,14 +1,20 @@
-"""Answers of document 01: writing, reading a factor list off the bytes, and finding the sheet that an answer belongs to."""
+"""Answers of documents 01 and 02: writing, reading a factor list off the bytes, and finding the sheet that an answer belongs to."""
 
 from typing import Iterator, Optional
 
 from arithmetic import LIMIT, TAKEN_PRIMES
 from parts import parts_of, totals_of
 from polynomials import degree, product_of
-from sheets import COEFFICIENT, DEGREE, END, PRIME, Sheet, coefficient_commands
+from run_lengths import run_length
+from sheets import COEFFICIENT, DEGREE, END, PRIME, Sheet, coefficient_commands, has_run
 
-PART, FACTOR, TOTALS = 0x11, 0x12, 0x13
-OPERANDS = {PRIME: 1, DEGREE: 1, COEFFICIENT: 2, END: 0, PART: 3, FACTOR: 2, TOTALS: 3}
+PART, FACTOR, TOTALS, RUN_LENGTH = 0x11, 0x12, 0x13, 0x14
+OPERANDS = {PRIME: 1, DEGREE: 1, COEFFICIENT: 2, END: 0, PART: 3, FACTOR: 2, TOTALS: 3, RUN_LENGTH: 2}
+
+
+def run_command(sheet: Sheet) -> bytes:
+    """ "The answer then carries 0x14 with a two-byte operand, low byte first, before its 0x0F." """
+    return bytes([RUN_LENGTH]) + run_length(sheet.prime, sheet.polynomial).to_bytes(2, "little") if sheet.run else b""
 
 
 def answer_bytes(sheet: Sheet) -> bytes:
@@ -19,7 +25,7 @@ def answer_bytes(sheet: Sheet) -> bytes:
         answer += bytes([PART, degree(part.base), part.m, part.verdict])
         for factor, count in part.factors:
             answer += bytes([FACTOR, degree(factor), count]) + coefficient_commands(factor)
-    return answer + bytes([TOTALS, *totals_of(parts), END])
+    return answer + bytes([TOTALS, *totals_of(parts)]) + run_command(sheet) + bytes([END])
 
 
 def commands(answer: bytes) -> Iterator[tuple]:
@@ -51,13 +57,16 @@ def list_read_off(answer: bytes) -> list:
 
 
 def sheet_of_answer(answer: bytes) -> Optional[Sheet]:
-    """The sheet whose answer this is, or None. Its polynomial can only be the product of the list."""
+    """The sheet whose answer this is, or None. Its polynomial can only be the product of the list; it asks for its run if 0x14 is there."""
     try:
         factors = list_read_off(answer)
+        run = any(command == RUN_LENGTH for command, _ in commands(answer))
     except ValueError:
         return None
     if answer[:1] != bytes([PRIME]) or answer[1] not in TAKEN_PRIMES or not 1 <= sum(map(degree, factors)) <= LIMIT:
         return None
     prime = answer[1]
-    sheet = Sheet(prime, product_of(prime * prime, factors))
+    sheet = Sheet(prime, product_of(prime * prime, factors), run)
+    if run and not has_run(prime, sheet.polynomial):
+        return None
     return sheet if answer_bytes(sheet) == answer else None

@@ -1,4 +1,4 @@
-"""What can be found by trying everything, for small degrees: monic polynomials, irreducible ones, all factor lists."""
+"""What can be found by trying everything, for small degrees: monic polynomials, irreducible ones, all factor lists; and runs by a walk."""
 
 import itertools
 
@@ -39,3 +39,15 @@ def lists_by_product(n: int, top: int) -> dict:
 def irreducibles(n: int, top: int) -> set:
     """The monic polynomials modulo n of degree 1 to top that are not a product of two of degree 1 or more."""
     return {f for f, lists in lists_by_product(n, top).items() if lists == [(f,)]}
+
+
+def walked_run(n: int, f: list, limit: int) -> int:
+    """After how many pulses modulo the monic f the state 1 is there again; 0 if it is not after so many as the limit says."""
+    first = [1] + [0] * (degree(f) - 1)
+    state = first
+    for pulses in range(1, limit + 1):
+        top = state[-1]
+        state = [(before - top * c) % n for before, c in zip([0, *state[:-1]], f)]
+        if state == first:
+            return pulses
+    return 0

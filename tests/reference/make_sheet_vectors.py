@@ -3,10 +3,11 @@
 import sys
 
 from call_vectors import write_vectors
+from run_cases import SHEET_KINDS
 from sheet_cases import KINDS
 from splitter import split
 
 if __name__ == "__main__":
     if len(sys.argv) != 2:
         sys.exit("usage: python3 tests/reference/make_sheet_vectors.py FOLDER")
-    write_vectors(sys.argv[1], KINDS, split)
+    write_vectors(sys.argv[1], KINDS + SHEET_KINDS, split)

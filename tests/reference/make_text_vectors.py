@@ -7,6 +7,7 @@ stdout  the text of each case, as `split` prints it, one after the other; then `
 import sys
 
 from call_vectors import cases_of
+from run_cases import TEXT_KINDS
 from splitter import program
 from stored import write_cases
 from text_cases import KINDS
@@ -24,7 +25,7 @@ def text_of(case: bytes) -> str:
 
 def main(folder: str) -> None:
     """Writes the two files."""
-    write_cases(folder, KINDS, cases_of, case_bytes, text_of)
+    write_cases(folder, KINDS + TEXT_KINDS, cases_of, case_bytes, text_of)
 
 
 if __name__ == "__main__":

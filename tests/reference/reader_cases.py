@@ -1,4 +1,5 @@
-"""The calls on which the library's answer reader is compared with the reference: one function for each kind."""
+"""The calls on which the library's answer reader is compared with the reference: one function for each kind; those with 0x14 are in
+run_cases.py."""
 
 import random
 from typing import Iterator
@@ -94,7 +95,7 @@ def bytes_after_the_end(source: random.Random) -> Iterator[Call]:
 def single_factor(source: random.Random) -> Iterator[Call]:
     """f handed back as its own single factor, under each verdict and with several powers."""
     for sheet in all_sheets()[::40]:
-        p, f = sheet
+        p, f = sheet.prime, sheet.polynomial
         for verdict in (BASIC, SOLID, POWER, SPLIT):
             for d, m in ((degree(f), 1), (1, degree(f))):
                 yield Call(list_bytes(p, degree(f), [(d, m, verdict, [(f, 1)])], (1, 1, 0)))
@@ -141,7 +142,7 @@ def other_split_lists(p: int, g: list, m: int, m1: int) -> Iterator[bytes]:
 def other_layouts(source: random.Random) -> Iterator[Call]:
     """The answer's list in another layout: another order of parts, other totals, coefficients that may not be written."""
     for sheet in all_sheets()[::25]:
-        p, f = sheet
+        p, f = sheet.prime, sheet.polynomial
         rows = [(degree(part.base), part.m, part.verdict, part.factors) for part in parts_of(p, f)]
         good = answer_bytes(sheet)
         totals = tuple(good[-4:-1])

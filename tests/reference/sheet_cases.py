@@ -1,4 +1,5 @@
-"""The calls from sheets to answers on which the library is compared with the reference: one function for each kind."""
+"""The calls from sheets to answers on which the library is compared with the reference: one function for each kind; those with 0x04 are in
+run_cases.py."""
 
 import random
 from typing import Iterator, NamedTuple
@@ -116,7 +117,7 @@ def small_damage(source: random.Random) -> Iterator[Call]:
 
 
 def full_sheets(source: random.Random) -> Iterator[Call]:
-    """The longest sheet: cut off at every byte, every byte changed by one, left out or exchanged."""
+    """The longest sheet without 0x04: cut off at every byte, every byte changed by one, left out or exchanged."""
     for kind in (beginnings, with_neighbouring_byte, with_byte_left_out, with_bytes_exchanged):
         yield from (Call(data) for data in kind(FULL))
 

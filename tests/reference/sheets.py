@@ -1,17 +1,18 @@
-"""Sheets of document 01: reading with the numbers 2 to 8 and their places, and writing."""
+"""Sheets of documents 01 and 02: reading with the numbers 2 to 8 and 14 and their places, and writing."""
 
 from typing import NamedTuple
 
 from arithmetic import LIMIT, TAKEN_PRIMES
 
-PRIME, DEGREE, COEFFICIENT, END = 0x01, 0x02, 0x03, 0x0F
+PRIME, DEGREE, COEFFICIENT, RUN, END = 0x01, 0x02, 0x03, 0x04, 0x0F
 
 
 class Sheet(NamedTuple):
-    """A prime p and a monic polynomial modulo p² of degree 1 to 32."""
+    """A prime p and a monic polynomial modulo p² of degree 1 to 32; with 0x04 the run length is asked for."""
 
     prime: int
     polynomial: list
+    run: bool = False
 
 
 class Refusal(Exception):
@@ -45,21 +46,31 @@ def operand(data: bytes, place: int, number: int, allowed) -> int:
     return byte
 
 
+def has_run(prime: int, polynomial: list) -> bool:
+    """14, "p divides the constant coefficient", is not its case. There is a run exactly then."""
+    return polynomial[0] % prime != 0
+
+
 def read_sheet(data: bytes) -> Sheet:
-    """ "A sheet is 0x01, 0x02, any number of 0x03, 0x0F." """
+    """ "A sheet is 0x01, 0x02, any number of 0x03, 0x0F", and "may carry command 0x04, without operand, just before 0x0F". """
     command(data, 0, PRIME)
     prime = operand(data, 1, 4, TAKEN_PRIMES)
     command(data, 2, DEGREE)
     top = operand(data, 3, 5, range(1, LIMIT + 1))
     polynomial = [0] * top + [1]
     place, least = 4, 0
-    while command(data, place, COEFFICIENT, END) == COEFFICIENT:
+    while (code := command(data, place, COEFFICIENT, RUN, END)) == COEFFICIENT:
         index = operand(data, place + 1, 6, range(least, top))
         polynomial[index] = operand(data, place + 2, 7, range(1, prime * prime))
         place, least = place + 3, index + 1
+    if code == RUN:
+        if not has_run(prime, polynomial):
+            raise Refusal(14, place)
+        place += 1
+        command(data, place, END)
     if place + 1 < len(data):
         raise Refusal(8, place + 1)
-    return Sheet(prime, polynomial)
+    return Sheet(prime, polynomial, code == RUN)
 
 
 def coefficient_commands(polynomial: list) -> bytes:
@@ -68,6 +79,6 @@ def coefficient_commands(polynomial: list) -> bytes:
 
 
 def sheet_bytes(sheet: Sheet) -> bytes:
-    """The one sheet of a polynomial."""
+    """The one sheet of a polynomial, with or without 0x04."""
     head = bytes([PRIME, sheet.prime, DEGREE, len(sheet.polynomial) - 1])
-    return head + coefficient_commands(sheet.polynomial) + bytes([END])
+    return head + coefficient_commands(sheet.polynomial) + bytes([RUN, END] if sheet.run else [END])

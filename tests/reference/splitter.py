@@ -1,4 +1,4 @@
-"""The two calls on bytes and the program `split` of document 01.
+"""The two calls on bytes and the program `split` of documents 01 and 02.
 
 Run as a program it reads a sheet from standard input and prints the lines: python3 tests/reference/splitter.py < SHEET
 """
@@ -9,6 +9,7 @@ from typing import NamedTuple
 from answers import answer_bytes, sheet_of_answer
 from parts import WORDS, parts_of, totals_of
 from polynomials import degree
+from run_lengths import run_length
 from sheets import Refusal, Sheet, read_sheet, sheet_bytes
 
 AREA = 384
@@ -52,13 +53,14 @@ def read(answer: bytes, area: bytes) -> Outcome:
 
 
 def lines_of(sheet: Sheet) -> list:
-    """The lines that `split` prints for an accepted sheet."""
+    """The lines that `split` prints for an accepted sheet; "`run` and the number as its last line" where the sheet asks for it."""
     parts = parts_of(sheet.prime, sheet.polynomial)
     lines = ["prime {} degree {}".format(sheet.prime, degree(sheet.polynomial))]
     for part in parts:
         lines.append("part {} {} {}".format(degree(part.base), part.m, WORDS[part.verdict]))
         lines += ["factor " + " ".join(map(str, (count, *factor))) for factor, count in part.factors]
-    return lines + ["total {} different {} free {}".format(*totals_of(parts))]
+    lines.append("total {} different {} free {}".format(*totals_of(parts)))
+    return lines + (["run {}".format(run_length(sheet.prime, sheet.polynomial))] if sheet.run else [])
 
 
 def program(data: bytes) -> list:

@@ -1,14 +1,15 @@
-"""The reference splitter on the pages of document 01: trial table, edges, the program's example, calls and the answer reader."""
+"""The reference splitter on the pages of documents 01 and 02: trial table, edges, the program's example, calls and the answer reader."""
 
 import itertools
 import random
 import unittest
 
 from answers import answer_bytes, list_read_off, sheet_of_answer
-from brute_force import irreducibles, monics_to
+from brute_force import irreducibles, monics_to, walked_run
+from known_runs import with_run
 from parts import WORDS, parts_of, totals_of
 from polynomials import degree, product_of
-from sheets import Refusal, Sheet, read_sheet, sheet_bytes
+from sheets import Refusal, Sheet, has_run, read_sheet, sheet_bytes
 from splitter import AREA, program, read, split
 
 EMPTY_AREA = bytes(AREA)
@@ -49,6 +50,7 @@ class Papers(unittest.TestCase):
     def test_program(self):
         expected = ["prime 3 degree 3", "part 1 3 split", "factor 2 1 1", "factor 1 4 1", "total 3 different 2 free 2"]
         self.assertEqual(program(EXAMPLE), expected)
+        self.assertEqual(program(EXAMPLE[:-1] + b"\x04\x0f"), [*expected, "run 18"])
         self.assertEqual(program(bytes([1, 4])), ["refused 4 at 1"])
         self.assertEqual(program(b""), ["refused 2 at 0"])
 
@@ -56,6 +58,14 @@ class Papers(unittest.TestCase):
         expected = "01 03 02 03 11 01 03 04 12 01 02 03 00 01 12 01 01 03 00 04 13 03 02 02 0F"
         self.assertEqual(split(EXAMPLE, EMPTY_AREA).area[:25], bytes.fromhex(expected))
         self.assertEqual(split(EXAMPLE, EMPTY_AREA).count, 25)
+
+    def test_run_of_the_paper(self):
+        """ "For x² + 1 modulo 4 it is 4": 0x14 with two bytes, low byte first, before 0x0F; a run of 65,535 and one above it."""
+        asked, plain = (split(bytes.fromhex(data), EMPTY_AREA) for data in ("0102 0202 030001 04 0F", "0102 0202 030001 0F"))
+        self.assertEqual(asked.area[: asked.count], plain.area[: plain.count - 1] + bytes.fromhex("14 04 00 0F"))
+        for n, operand in ((1, "01 00"), (256, "00 01"), (65535, "FF FF"), (65537, "00 00")):
+            p = 7 if n == 256 else 2
+            self.assertEqual(answer_bytes(Sheet(p, with_run(p, n), True))[-4:], bytes.fromhex("14" + operand + "0F"))
 
 
 class SheetReader(unittest.TestCase):
@@ -91,7 +101,7 @@ class SheetReader(unittest.TestCase):
             ([1, 3, 2, 2, 3, 1, 1, 3], 2, 8),
             ([1, 3, 2, 2, 3, 1, 1, 3, 1], 6, 8),
             ([1, 3, 2, 2, 3, 1, 1, 3, 0], 6, 8),
-            ([1, 3, 2, 2, 3, 1, 1, 4], 3, 7),
+            ([1, 3, 2, 2, 3, 1, 1, 5], 3, 7),
             ([1, 3, 2, 2, 3, 0], 2, 6),
             ([1, 3, 2, 2, 3, 0, 9], 7, 6),
             ([1, 3, 2, 2, 15, 15], 8, 5),
@@ -100,22 +110,54 @@ class SheetReader(unittest.TestCase):
         for data, number, place in rows:
             self.assertEqual(fault(data), (number, place), data)
 
+    def test_run_command(self):
+        """14 as soon as 0x04 is read, before a 2 or 3 behind it; behind one that is allowed only 0x0F, and then nothing."""
+        rows = (
+            ([1, 3, 2, 2, 3, 0, 1, 4, 15], 0, 0),
+            ([1, 3, 2, 2, 3, 0, 1, 3, 1, 3, 4, 15], 0, 0),
+            ([1, 3, 2, 2, 3, 0, 3, 4, 15], 14, 7),
+            ([1, 3, 2, 2, 3, 0, 6, 3, 1, 1, 4, 15], 14, 10),
+            ([1, 3, 2, 2, 3, 1, 1, 4, 15], 14, 7),
+            ([1, 3, 2, 2, 4], 14, 4),
+            ([1, 3, 2, 2, 4, 4], 14, 4),
+            ([1, 3, 2, 2, 4, 15, 15], 14, 4),
+            ([1, 3, 2, 2, 3, 0, 1, 4], 2, 8),
+            ([1, 3, 2, 2, 3, 0, 1, 4, 4], 3, 8),
+            ([1, 3, 2, 2, 3, 0, 1, 4, 3, 1, 1, 15], 3, 8),
+            ([1, 3, 2, 2, 3, 0, 1, 4, 15, 4], 8, 9),
+            ([1, 3, 2, 2, 3, 0, 1, 15, 4], 8, 8),
+            ([1, 3, 4, 2, 2, 15], 3, 2),
+            ([1, 3, 2, 2, 3, 0, 4, 15], 0, 0),
+            ([4], 3, 0),
+        )
+        for data, number, place in rows:
+            self.assertEqual(fault(data), (number, place), data)
+
     def test_one_sheet_for_each_polynomial(self):
+        """And one more with 0x04, which is refused exactly where p divides the constant coefficient."""
         for p, top in {2: 4, 3: 3, 5: 2, 7: 2}.items():
             for f in monics_to(p * p, top):
                 self.assertEqual(read_sheet(sheet_bytes(Sheet(p, f))), Sheet(p, f))
+                data = sheet_bytes(Sheet(p, f, True))
+                if has_run(p, f):
+                    self.assertEqual(read_sheet(data), Sheet(p, f, True))
+                else:
+                    self.assertEqual(fault(data), (14, len(data) - 2))
 
     def test_every_beginning_ends_too_soon(self):
-        full = sheet_bytes(Sheet(7, [48] * 32 + [1]))
-        self.assertEqual(len(full), 101)
-        for length in range(101):
-            self.assertEqual(fault(full[:length]), (2, length))
-        self.assertEqual(fault(full + b"\x0f"), (8, 101))
+        """The longest sheet has 101 bytes without 0x04 and 102 with it."""
+        for run, longest in ((False, 101), (True, 102)):
+            full = sheet_bytes(Sheet(7, [48] * 32 + [1], run))
+            self.assertEqual(len(full), longest)
+            for length in range(longest):
+                self.assertEqual(fault(full[:length]), (2, length))
+            self.assertEqual(fault(full + b"\x0f"), (8, longest))
         self.assertEqual(fault(full[:100] + b"\x03"), (2, 101))
+        self.assertEqual(fault(full[:101] + b"\x03"), (3, 101))
 
     def test_sheets_are_what_the_writer_writes(self):
-        """Of all strings over the bytes that matter, those accepted are exactly the sheets of monic polynomials."""
-        written = {sheet_bytes(Sheet(2, f)) for f in monics_to(4, 2)}
+        """Of all strings over the bytes that matter, those accepted are exactly the sheets of monic polynomials, with and without 0x04."""
+        written = {sheet_bytes(Sheet(2, f, run)) for f in monics_to(4, 2) for run in (False, True) if has_run(2, f) or not run}
         accepted = set()
         for length in range(7):
             for tail in itertools.product((0, 1, 2, 3, 4, 15), repeat=length):
@@ -144,7 +186,7 @@ class Calls(unittest.TestCase):
         for p in (2, 3, 5, 7):
             for _ in range(60):
                 f = [source.randrange(p * p) for _ in range(source.randrange(1, 33))] + [1]
-                self.check_answer(Sheet(p, f))
+                self.check_answer(Sheet(p, f, has_run(p, f)))
                 g = [source.randrange(p * p) for _ in range(source.randrange(1, 4))] + [1]
                 m = source.randrange(2, 8)
                 bump = [p * source.randrange(p) * source.randrange(2) for _ in range(len(g) * m - m)] + [0]
@@ -168,8 +210,9 @@ class Calls(unittest.TestCase):
 class AnswerReader(unittest.TestCase):
     def test_changed_answers(self):
         """Answers modulo 4 with a byte changed, left out or put in: accepted exactly if they are an answer all the same."""
-        answers = {answer_bytes(Sheet(2, f)): Sheet(2, f) for f in monics_to(4, 3)}
-        self.assertEqual(len(answers), 84)
+        sheets = [Sheet(2, f, run) for f in monics_to(4, 3) for run in (False, True) if has_run(2, f) or not run]
+        answers = {answer_bytes(sheet): sheet for sheet in sheets}
+        self.assertEqual(len(answers), 84 + 42)
         for answer in answers:
             for changed in self.changes(answer):
                 sheet = sheet_of_answer(changed)
@@ -179,9 +222,17 @@ class AnswerReader(unittest.TestCase):
                     self.assertEqual(answer_bytes(sheet), changed)
                     self.assertNotEqual((sheet.prime, len(sheet.polynomial) <= 4), (2, True))
 
+    def test_operands_of_the_run(self):
+        """Of all operands of 0x14 the answer has the one that a walk gives, and only that is read back."""
+        for p, f in ((2, [1, 0, 1]), (3, [4, 0, 6, 1]), (7, [46, 1]), (2, with_run(2, 300))):
+            plain, run = answer_bytes(Sheet(p, f)), walked_run(p * p, f, 65535)
+            for other in (*range(600), 256 * run % 65536, 65535):
+                answer = plain[:-1] + b"\x14" + other.to_bytes(2, "little") + b"\x0f"
+                self.assertEqual(sheet_of_answer(answer), Sheet(p, f, True) if other == run else None)
+
     def changes(self, answer):
         yield answer
-        for place, byte in itertools.product(range(len(answer) + 1), (0, 1, 2, 3, 4, 15, 17, 18, 19, 255)):
+        for place, byte in itertools.product(range(len(answer) + 1), (0, 1, 2, 3, 4, 15, 17, 18, 19, 20, 255)):
             yield answer[:place] + bytes([byte]) + answer[place:]
             yield answer[:place] + bytes([byte]) + answer[place + 1 :]
         for place in range(len(answer)):

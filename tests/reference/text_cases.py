@@ -52,7 +52,7 @@ def of_full_degree(source: random.Random) -> Iterator[bytes]:
 
 
 def too_long(source: random.Random) -> Iterator[bytes]:
-    """Inputs past the 101 bytes of the longest sheet."""
+    """Inputs past the 101 bytes of the longest sheet without 0x04."""
     yield from (FULL + bytes([15] * more) for more in (1, 2, 100, 900))
     yield from (FULL[:-1] + b"\x03" + more for more in (b"\x1f", b"\x1f\x01", bytes(900)))
     yield from (bytes(length) for length in (102, 103, 1000))

@@ -46,6 +46,7 @@ use Rattle.algebra.specs.PolynomialRing.{
   constant-zero,
   constant-neg,
 }
+use Rattle.algebra.specs.Monomials.{x^}
 use Rattle.algebra.specs.Degree.{Below}
 
 -- the polynomials over ℤ/n
@@ -109,7 +110,7 @@ module _ (n : ℕ) where
       (constant (residue n c)) (constant (residue n a)) x (poly n f)
       ∙ sym (ap (λ h. constant (residue n c) · h) (poly-cons a f))
 
-  poly-zero-cons : (f : List ℕ) → poly n (0 ∷ f) ≡ x · poly n f
+  pub poly-zero-cons : (f : List ℕ) → poly n (0 ∷ f) ≡ x · poly n f
   poly-zero-cons f =
       poly-cons 0 f ∙ ap (λ c. c +ᴿ x · poly n f) (ap constant (residue-zero n) ∙ constant-zero (Residues n)) ∙ (𝓩[x]/ n) .+-zero (x · poly n f)
 
@@ -127,13 +128,20 @@ module _ (n : ℕ) where
       ∙ solve (𝓩[x]/ n) 4 (λ a x f g. a ⊗ g ⊕ x ⊗ (f ⊗ g) ≈ (a ⊕ x ⊗ f) ⊗ g) tt (constant (residue n a)) x (poly n f) (poly n g)
       ∙ sym (ap (λ h. h · poly n g) (poly-cons a f))
 
+  pub constant-residue-one : constant {𝓡 = Residues n} (residue n 1) ≡ 𝟏
+  constant-residue-one = ap constant (residue-one n) ∙ constant-one (Residues n)
+
   pub poly-one : poly n (1 ∷ []) ≡ 𝟏
   poly-one =
-      poly-cons 1 [] ∙ ap₂ (λ c h. c +ᴿ x · h) (ap constant (residue-one n) ∙ constant-one (Residues n)) poly-nil
+      poly-cons 1 [] ∙ ap₂ (λ c h. c +ᴿ x · h) constant-residue-one poly-nil
       ∙ solve (𝓩[x]/ n) 1 (λ x. con 1 ⊕ x ⊗ con 0 ≈ con 1) tt x
 
   pub poly-x : poly n (0 ∷ 1 ∷ []) ≡ x
   poly-x = poly-zero-cons (1 ∷ []) ∙ ap (λ h. x · h) poly-one ∙ mul-one (𝓩[x]/ n) x
+
+  pub poly-monomial : (k : ℕ) → poly n (spec.monomial k) ≡ x^ k
+  poly-monomial zero = poly-one ∙ sym (pow-zero (𝓩[x]/ n) x)
+  poly-monomial (suc k) = poly-zero-cons (spec.monomial k) ∙ ap (λ h. x · h) (poly-monomial k) ∙ sym (pow-suc (𝓩[x]/ n) x k)
 
   -- ---- modulo n
 

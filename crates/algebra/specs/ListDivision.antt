@@ -1,5 +1,6 @@
 -- The specification's quotient and remainder of coefficient lists are those of polynomials over ℤ/n, for a monic divisor.
--- Proves the law of division, the bounds and shapes of both lists, and that `divides` decides divisibility. Assumes nothing.
+-- Proves the law of division, the bounds and shapes of both lists, that a list is congruent to its remainder and to no other list so short,
+-- and that `divides` decides divisibility. Assumes nothing.
 use mathlib.Core.Path.{_≡_, refl, sym, _∙_, ap, ap₂, subst}
 use mathlib.Core.List.{List, [], _∷_}
 use mathlib.Core.Logic.{⊎-elim}
@@ -18,7 +19,21 @@ use Rattle.algebra.specs.Residues.{residue, Residues, residue-zero, zero
 use Rattle.algebra.specs.PolynomialRing.{_+ᴿ_, _·_, -ᴿ_, 𝟎, 𝟏, x, constant, poly-ext, coef-zero}
 use Rattle.algebra.specs.Degree.{Below, Monic, below-up, below-add, below-neg, below-factor, below-𝟎}
 use Rattle.algebra.specs.Division.{below-top, divided-unique}
-use Rattle.algebra.specs.CoefficientLists.{ℤ[x]/, poly, coef-poly, below-poly, poly-nil, poly-cons, poly-sub, poly-scale, 𝓩[x]/}
+use Rattle.algebra.specs.Congruence.{Congruent, congruent-sym, congruent-remainder, congruent-unique}
+use Rattle.algebra.specs.CoefficientLists.{
+  ℤ[x]/,
+  poly,
+  Reduced,
+  coef-poly,
+  below-poly,
+  poly-nil,
+  poly-cons,
+  poly-sub,
+  poly-scale,
+  constant-residue-one,
+  same-list,
+  𝓩[x]/,
+}
 use Rattle.lists.specs.AllAny.{all-at, all-from}
 use Rattle.algebra.specs.ListShapes.{length-sub, length-scale, low-reduce, low-take, getD-zeros}
 
@@ -39,6 +54,11 @@ poly-take n d f h = poly-ext at
 pub poly-zeros : (n k : ℕ) → poly n (replicate k 0) ≡ 𝟎
 poly-zeros n k =
     poly-ext (λ j. coef-poly n (replicate k 0) j ∙ ap (residue n) (getD-zeros k j) ∙ residue-zero n ∙ sym (coef-zero (Residues n) j))
+
+pub poly-unit : (n k : ℕ) → poly n (1 ∷ replicate k 0) ≡ 𝟏
+poly-unit n k =
+    poly-cons n 1 (replicate k 0) ∙ ap₂ (λ c f. c +ᴿ x · f) (constant-residue-one n) (poly-zeros n k)
+    ∙ solve (𝓩[x]/ n) 1 (λ x. con 1 ⊕ x ⊗ con 0 ≈ con 1) tt x
 
 -- a list that is zero everywhere is the polynomial 𝟎, and where its entries are below n no other is
 pub poly-isZero : (n : ℕ) (f : List ℕ) → T (spec.isZero f) → poly n f ≡ 𝟎
@@ -155,6 +175,30 @@ module _ (n : ℕ) (pos : 0 < n) (d : ℕ) (g : List ℕ) (long : length g ≡ s
   -- quotient times divisor, plus remainder
   pub division-law : (f : List ℕ) → poly n (spec.quotient n g f) · poly n g +ᴿ poly n (spec.remainder n g f) ≡ poly n f
   division-law f = ap (λ q. q · poly n g +ᴿ poly n (spec.remainder n g f)) (poly-quotient f) ∙ quotients-law f
+
+  -- ---- remainders
+
+  pub remainder-reduced : (f : List ℕ) → Reduced n d (spec.remainder n g f)
+  remainder-reduced f = record { len = length-remainder f; low = low-remainder f }
+
+  pub remainder-congruent : (f : List ℕ) → Congruent (𝓩[x]/ n) (poly n g) (poly n (spec.remainder n g f)) (poly n f)
+  remainder-congruent f =
+      congruent-sym (𝓩[x]/ n)
+      (congruent-remainder (record {
+        quotient = poly n (spec.quotient n g f);
+        remainder = poly n (spec.remainder n g f);
+        law = division-law f;
+        small = below-remainder f;
+      }))
+
+  below-reduced : {f : List ℕ} → Reduced n d f → Below d (poly n f)
+  below-reduced {f} r = subst (λ m. Below m (poly n f)) (r .len) (below-poly n f)
+
+  -- congruent lists of d coefficients are the same
+  pub congruent-same : {f h : List ℕ} → Reduced n d f → Reduced n d h → Congruent (𝓩[x]/ n) (poly n g) (poly n f) (poly n h) → f ≡ h
+  congruent-same r s c = same-list r s (congruent-unique monic (below-reduced r) (below-reduced s) c)
+
+  -- ---- quotients
 
   low-quotients : (f : List ℕ) → ((k : ℕ) → getD f k 0 < n) → (k : ℕ) → getD (spec.quotients n g f) k 0 < n
   unfolding spec.quotients

@@ -1,16 +1,19 @@
 -- The shapes of the specification's coefficient lists.
--- Proves how long sums, multiples and products are, and that their entries are below the modulus. Assumes nothing.
+-- Proves how long powers of x, sums, multiples and products are, and that their entries are below the modulus. Assumes nothing.
 use mathlib.Core.Path.{_≡_, refl, sym, _∙_, ap}
 use mathlib.Core.List.{List, [], _∷_, map}
 use mathlib.Core.Logic.{⊎-elim}
 use Prim.Native.Nat.{ℕ, suc, _≤_, _<_, _+_, _*_, _%_, _-_}
 use native.Mathlib.Nat.{mod-lt, zero-mod}
 use native.Mathlib.Omega.{arith}
-use lib.ListN.{length, getD, take, replicate, length-map, length-take, List·getD-eq-default, List·getD-map}
+use lib.ListN.{length, getD, take, replicate, length-map, length-append, length-replicate, length-take, List·getD-eq-default, List·getD-map}
 use lib.Seq.{getD-take}
-use Rattle.specification.specs.Polynomials.{plus, multiple, shift, times, reduce, add, scale, sub, mul}
+use Rattle.specification.specs.Polynomials.{degree, monomial, plus, multiple, shift, times, reduce, add, scale, sub, mul}
 use Rattle.lists.specs.Places.{read-replicate}
 use Rattle.algebra.specs.Numbers.{lt-or-le}
+
+pub degree-monomial : (n : ℕ) → degree (monomial n) ≡ n
+degree-monomial n = omega (arith, length-append {A = ℕ} (replicate n 0) (1 ∷ []), length-replicate {A = ℕ} n 0)
 
 length-plus : (f g : List ℕ) → length g ≤ length f → length (plus f g) ≡ length f
 unfolding plus

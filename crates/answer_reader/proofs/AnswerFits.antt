@@ -1,7 +1,7 @@
 -- The commands of a good sheet's answer fit: `commands-fit`.
 -- Proves it from the shape of the answer's parts, and that the factors in the bytes multiply to f. Assumes nothing.
-use mathlib.Core.Path.{_≡_, refl, sym, _∙_, ap}
-use mathlib.Core.List.{List, [], _∷_, _++_, flatMap}
+use mathlib.Core.Path.{_≡_, refl, sym, _∙_, ap, subst}
+use mathlib.Core.List.{List, [], _∷_, _++_, append-nil, flatMap}
 use mathlib.Core.List.{List·Memᴰ·head as here}
 use Prim.Native.Nat.{ℕ, _≤_, _<_, _*_}
 use native.Mathlib.Nat.{mul-le-mul-left}
@@ -23,7 +23,7 @@ use Rattle.lists.specs.Sums.{member-le}
 use Rattle.lists.specs.FlatMaps.{flatMap-cons}
 use Rattle.layouts.specs.CommandsReadBack.{NoCoefficient}
 use Rattle.layouts.specs.AnswerLayout.{sheetParts}
-use Rattle.layouts.specs.AnswerReadBack.{other-parts, answer-commands}
+use Rattle.layouts.specs.AnswerReadBack.{other-parts, end-without, answer-commands}
 use Rattle.items.specs.PartShapes.{partDegree}
 use Rattle.layouts.specs.SheetsRead.{written-is-read}
 use Rattle.claims.specs.Proved.{shapes, parts-degrees, term-3, degrees-add-up}
@@ -45,7 +45,8 @@ module _ (s : Sheet) (n : ℕ) where
   unfolding answerCommands headCommands endCommands
   all-fit Ps h =
       fits-past n (headCommands s) (flatMap (partCommands s) Ps ++ endCommands s (totalsOf Ps)) (all-cons refl (all-cons refl (λ c i. elim i [ ])))
-      (parts-fit Ps (endCommands s (totalsOf Ps)) h refl (fits-past n (endCommands s (totalsOf Ps)) [] (all-cons refl (all-cons refl (λ c i. elim i [ ]))) tt))
+      (parts-fit Ps (endCommands s (totalsOf Ps)) h refl
+      (subst (Fits n) (append-nil (endCommands s (totalsOf Ps))) (fits-past n (endCommands s (totalsOf Ps)) [] (end-without s (totalsOf Ps)) tt)))
 
 module _ (s : Sheet) (g : GoodSheet s) where
   abbrev n : ℕ

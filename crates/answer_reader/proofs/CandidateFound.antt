@@ -1,7 +1,7 @@
 -- The candidate: a good sheet where one is found, and the sheet of every answer.
--- Proves the promise `CandidateOf` from those of the place and the product, and where nothing is found. Assumes nothing.
-use mathlib.Core.Path.{_≡_, refl, sym, _∙_, ap, ap₂, subst}
-use mathlib.Core.Bool.{true, false}
+-- Proves the promise `CandidateOf` from those of the place, the product and the run, and where nothing is found. Assumes nothing.
+use mathlib.Core.Path.{_≡_, refl, sym, _∙_, ap, subst}
+use mathlib.Core.Bool.{Bool, true, false, false≢true}
 use mathlib.Core.List.{List, [], _∷_}
 use mathlib.Core.Logic.{⊎-elim}
 use Prim.Native.Nat.{ℕ, _≤_, _<_, _+_}
@@ -10,7 +10,8 @@ use lib.Dec.{T, lit<}
 use lib.ListN.{length, getD}
 use Rattle.specification.specs.Lists.{first}
 use Rattle.specification.specs.Limits.{taken, _²}
-use Rattle.specification.specs.Commands.{Command, command, operand, operandCount, commands, firstWith}
+use Rattle.specification.specs.Commands.{Command, command, operand, operandCount, commands, firstWith, has}
+use Rattle.specification.specs.RunLength.{hasRun}
 use Rattle.specification.specs.Sheets as spec
 use Rattle.specification.specs.Sheets.{sheetOf}
 use Rattle.specification.specs.Answers.{answer}
@@ -24,7 +25,9 @@ use Rattle.arrays.specs.Held.{MonicArray, poly-monic}
 use Rattle.items.specs.MonicLists.{MonicList, from-claimed, to-claimed}
 use Rattle.items.specs.Factorisations.{monic-equal}
 use Rattle.layouts.specs.CommandsReadBack.{WellFormed}
-use Rattle.layouts.specs.AnswerReadBack.{head-back}
+use Rattle.layouts.specs.AnswerReadBack.{head-back, run-shown}
+use Rattle.layouts.specs.GoodSheets.{asked-good}
+use Rattle.commands.specs.AsSheet.{constant-decides}
 use Rattle.part_list.proofs.ArrayPieces.{listed-monic}
 use Rattle.answer_reader.specs.declared.Candidate.{Candidate}
 use Rattle.answer_reader.specs.declared.Grown.{Grown}
@@ -92,20 +95,46 @@ module _ {bytes : List ℕ} (s : spec.Sheet) (g : GoodSheet s) (e : bytes ≡ an
     pub degree-positive : 0 < r .degree
     degree-positive = omega (arith, ap length poly-is, listed-monic large array .reduced .len, g .monic .positive)
 
+    -- a run that is shown was asked for
+    run-is : has 0x14 (commands bytes) ≡ s .run
+    run-is = ap (λ (l : List ℕ). has 0x14 (commands l)) e ∙ run-shown s
+
+    pub run-allowed : {run : Bool} → run ≡ has 0x14 (commands bytes) → run ≡ true → T (hasRun (getD bytes (at + 1) 0) (getD (r .coefs) 0 0 ∷ []))
+    run-allowed shown asked =
+        subst T
+        (ap (hasRun (s .prime)) (sym poly-is) ∙ constant-decides (s .prime) (r .degree) (r .coefs)
+        ∙ ap (λ (p : ℕ). hasRun p (getD (r .coefs) 0 0 ∷ [])) (sym prime-is))
+        (g .again (sym run-is ∙ sym shown ∙ asked))
+
 -- ---- a product of degree 1 or more
 
 -- a monic polynomial in an array makes a good sheet
 array-good : (p d : ℕ) (coefs : List ℕ) → taken p ≡ true → 0 < d → MonicArray (p ²) d coefs → GoodSheet (sheetOf p (listed d coefs))
-array-good p d coefs t l m = record { prime = subst T (sym t) tt; monic = to-claimed l list; fits = omega (arith, list .reduced .len, m .fits) }
+array-good p d coefs t l m = record {
+  prime = subst T (sym t) tt;
+  monic = to-claimed l list;
+  fits = omega (arith, list .reduced .len, m .fits);
+  again = λ e. absurd (false≢true e);
+}
   where
     list : MonicList (p ²) d (listed d coefs)
     list = listed-monic (square-large p (is-prime t .large)) m
 
-pub candidate-found : {bytes : List ℕ} {at : ℕ} {r : Grown} → FoundAt bytes 0x01 at → ProductOf bytes (getD bytes (at + 1) 0) r
-    → taken (getD bytes (at + 1) 0) ≡ true → 0 < r .degree
-    → CandidateOf bytes (record { found = r .found; sheet = record { prime = getD bytes (at + 1) 0; degree = r .degree; coefs = r .coefs } })
-candidate-found {bytes} {at} {r} h whole t l = record {
+pub candidate-found : {bytes : List ℕ} {at : ℕ} {r : Grown} {run : Bool} → FoundAt bytes 0x01 at → ProductOf bytes (getD bytes (at + 1) 0) r
+    → taken (getD bytes (at + 1) 0) ≡ true → 0 < r .degree → run ≡ has 0x14 (commands bytes)
+    → (run ≡ true → T (hasRun (getD bytes (at + 1) 0) (getD (r .coefs) 0 0 ∷ [])))
+    → CandidateOf bytes (record { found = r .found; sheet = record { prime = getD bytes (at + 1) 0; degree = r .degree; coefs = r .coefs; run = run } })
+candidate-found {bytes} {at} {r} {run} h whole t l shown allowed = record {
   sound = λ y. record { prime = t; positive = l; array = whole .sound y .0 };
-  good = λ y. array-good (getD bytes (at + 1) 0) (r .degree) (r .coefs) t l (whole .sound y .0);
-  exact = λ s g e. (found s g e h whole, ap₂ sheetOf (sym (prime-is s g e h)) (sym (poly-is s g e h whole)));
+  good = λ y.
+      asked-good (array-good p (r .degree) (r .coefs) t l (whole .sound y .0))
+      (λ asked. subst T (sym (constant-decides p (r .degree) (r .coefs))) (allowed asked));
+  exact = λ s g e. (found s g e h whole, same s (prime-is s g e h) (poly-is s g e h whole) (shown ∙ run-is s g e h whole));
 }
+  where
+    p : ℕ
+    p = getD bytes (at + 1) 0
+
+    same : (s : spec.Sheet) → p ≡ s .prime → listed (r .degree) (r .coefs) ≡ s .poly → run ≡ s .run
+        → s ≡ record { prime = p; poly = listed (r .degree) (r .coefs); run = run }
+    same s a b c = rw (a, b, c) refl

@@ -1,17 +1,21 @@
 -- The loop that looks for a code, command by command: `Searching`, no command before the place has it.
--- Proves how the loop begins and goes on, what it ends with, and what that says of the first command with the code. Assumes nothing.
+-- Proves how the loop begins and goes on, what it ends with, and what that says of the first command with the code and of whether there is one.
+-- Assumes nothing.
 use mathlib.Core.Path.{_≡_, refl, sym, _∙_, ap}
+use mathlib.Core.Bool.{true, false}
 use mathlib.Core.List.{List, [], _∷_, _++_, append-assoc}
-use mathlib.Core.Logic.{_≢_}
+use mathlib.Core.Logic.{_≢_, ⊎-elim}
 use Prim.Native.Nat.{ℕ, _+_, _≤_, _<_}
 use native.Mathlib.Nat.{le-refl}
 use native.Mathlib.Omega.{arith}
 use lib.ListN.{length, getD}
-use borrow.Author.Tests.{eq-eqb, ne-eqb}
-use Rattle.specification.specs.Lists.{first}
-use Rattle.specification.specs.Commands.{Command, command, operandCount, commands, firstWith}
+use lib.Dec.{ltb}
+use borrow.Author.Tests.{eq-eqb, ne-eqb, lt-ltb, le-ltb}
+use Rattle.specification.specs.Lists.{first, anyPasses}
+use Rattle.specification.specs.Commands.{Command, command, operandCount, commands, firstWith, has}
+use Rattle.algebra.specs.Numbers.{lt-or-le}
 use Rattle.lists.specs.Members.{all-cons, all-append}
-use Rattle.layouts.specs.CommandsReadBack.{Without, firstWith-past}
+use Rattle.layouts.specs.CommandsReadBack.{Without, firstWith-past, has-past}
 use Rattle.answer_reader.specs.CommandPlaces.{commandsFrom, commandAt, placeAfter, commands-step, commands-end}
 use Rattle.answer_reader.specs.FoundInBytes.{FoundAt}
 
@@ -65,3 +69,19 @@ module _ {bytes : List ℕ} {code at : ℕ} (h : FoundAt bytes code at) where
   first-missing l =
       ap (firstWith code) (h .cut ∙ ap (λ (cs : List Command). h .before ++ cs) (commands-end bytes at l))
       ∙ firstWith-past code (h .before) [] (h .others) ∙ (unfold firstWith first in refl)
+
+  has-found : at < length bytes → has code (commands bytes) ≡ true
+  has-found l =
+      ap (has code) (h .cut ∙ ap (λ (cs : List Command). h .before ++ cs) (commands-step bytes at l))
+      ∙ has-past code (h .before) (commandAt bytes at ∷ commandsFrom bytes (placeAfter bytes at)) (h .others)
+      ∙ (unfold has anyPasses in rw (eq-eqb (getD bytes at 0) code (h .here l)) refl)
+
+  has-missing : length bytes ≤ at → has code (commands bytes) ≡ false
+  has-missing l =
+      ap (has code) (h .cut ∙ ap (λ (cs : List Command). h .before ++ cs) (commands-end bytes at l))
+      ∙ has-past code (h .before) [] (h .others) ∙ (unfold has anyPasses in refl)
+
+  -- it is there if its place is
+  pub has-by-place : ltb at (length bytes) ≡ has code (commands bytes)
+  has-by-place =
+      ⊎-elim (λ l. lt-ltb at (length bytes) l ∙ sym (has-found l)) (λ l. le-ltb at (length bytes) l ∙ sym (has-missing l)) (lt-or-le at (length bytes))

@@ -1,12 +1,17 @@
-// The only sheet that an answer's bytes can belong to: the prime they name, and the product of the factors they list, modulo p².
+// The only sheet that an answer's bytes can belong to: the prime they name, the product of the factors they list, modulo p², and a run asked for if
+// they show one.
 // `find_candidate` is public for the crates above, and no entry point of the library: whoever calls it works out that sheet's answer and compares.
 ghost use mathlib.Core.Path.{_≡_};
-ghost use mathlib.Core.Bool.{false};
+ghost use mathlib.Core.Bool.{true, false};
+ghost use mathlib.Core.List.{[], _∷_};
 ghost use Prim.Native.Nat.{_+_, _*_, _<_, _≤_};
 ghost use lib.ListN.{length, getD};
+ghost use lib.Dec.{T};
 ghost use Rattle.specification.specs.Limits.{_²};
-ghost use Rattle.specification.specs.Commands.{operandCount};
+ghost use Rattle.specification.specs.Commands.{operandCount, commands, has};
 ghost use Rattle.specification.specs.Coefficients.{coefficientCode, givenValue};
+ghost use Rattle.specification.specs.RunLength.{hasRun};
+ghost use Rattle.lists.specs.Decides.{Decides};
 ghost use Rattle.arrays.specs.Held.{MonicArray};
 ghost use Rattle.answer_reader.specs.CommandPlaces.{commandAt};
 ghost use Rattle.answer_reader.specs.FoundInBytes.{
@@ -23,6 +28,7 @@ use arrays::Coefs;
 use arrays::monomial;
 use commands::Sheet;
 use commands::coefficient_code;
+use commands::has_run;
 use commands::operand_count;
 use modular::product;
 use polynomial::Poly;
@@ -261,6 +267,21 @@ fn multiply(answer: &[u8], prime: u8) -> Grown
     }
 }
 
+// The bytes show a run.
+fn shows_run(answer: &[u8]) -> bool
+    ensures { λ r. ⌜ r ≡ has 0x14 (commands (now (answer .entry))) ⌝ }
+{
+    find(answer, 0x14) < answer.len()
+}
+
+// No run is asked for, or one that 14 allows.
+fn run_allowed(run: bool, prime: u8, constant: u16) -> bool
+    requires { ⌜ 0 < prime ⌝ }
+    ensures { λ r. ⌜ Decides r (run ≡ true → T (hasRun prime (constant ∷ []))) ⌝ }
+{
+    if run { has_run(prime, constant) } else { true }
+}
+
 // No sheet has these bytes for its answer.
 fn no_candidate() -> Candidate
     ensures { λ r. ⌜ r .found ≡ false ⌝ }
@@ -271,6 +292,7 @@ fn no_candidate() -> Candidate
             prime: 2,
             degree: 0,
             coefs: [0u16; 33],
+            run: false,
         },
     }
 }
@@ -292,12 +314,17 @@ pub fn find_candidate(answer: &[u8]) -> Candidate
         return no_candidate();
     }
     let coefs = whole.coefs;
+    let run = shows_run(answer);
+    if !run_allowed(run, prime, coefs[0]) {
+        return no_candidate();
+    }
     Candidate {
         found: whole.found,
         sheet: Sheet {
             prime: prime,
             degree: whole.degree,
             coefs: coefs,
+            run: run,
         },
     }
 }

@@ -1,21 +1,28 @@
 -- The layout of an answer over the code's arrays: the bytes of a factor, of a part and of an answer, as they are written one after the other.
--- Proves that they are those of the definitions; `TotalsOf` says that the struct of the totals has those of some parts. Assumes nothing.
-use mathlib.Core.Path.{_≡_, sym, _∙_, ap, ap₂}
+-- Proves that they are those of the definitions; `TotalsOf` says that the struct of the totals has those of some parts; `runOf` is the run length,
+-- if it is asked for. Assumes nothing.
+use mathlib.Core.Path.{_≡_, refl, sym, _∙_, ap, ap₂}
+use mathlib.Core.Bool.{true, cond}
 use mathlib.Core.List.{List, [], _∷_, _++_, map, flatMap}
-use Prim.Native.Nat.{ℕ, _≤_}
+use Prim.Native.Nat.{ℕ, _≤_, _/_, _%_}
 use native.Mathlib.Omega.{arith}
 use lib.ListN.{length, take}
+use lib.Dec.{T}
 use Rattle.specification.specs.Polynomials.{Poly}
 use Rattle.specification.specs.Parts as parts
 use Rattle.specification.specs.Totals as totals
 use Rattle.specification.specs.Totals.{totalsOf}
+use Rattle.specification.specs.Commands.{twoBytes}
+use Rattle.specification.specs.RunLength.{runLength, hasRun}
 use Rattle.specification.specs.Sheets.{Sheet}
 use Rattle.specification.specs.Answers.{verdictNumber}
 use Rattle.lists.specs.FlatMaps.{flatMap-map}
-use Rattle.arrays.specs.Listed.{degree-listed, lower-listed}
+use Rattle.arrays.specs.Listed.{listed, degree-listed, lower-listed}
+use Rattle.arrays.specs.Held.{MonicModSquare}
 use Rattle.layouts.specs.CoefficientBytes.{coefficientBytes}
 use Rattle.layouts.specs.SheetLayout.{headBytes}
-use Rattle.layouts.specs.AnswerLayout.{factorBytes, partBytes, endBytes, answerBytes, factorBytes-is, partBytes-is, answerBytes-is}
+use Rattle.layouts.specs.AnswerLayout.{factorBytes, partBytes, runBytes, endBytes, answerBytes, factorBytes-is, partBytes-is, runBytes-asked, answerBytes-is}
+use Rattle.commands.specs.declared.Sheet.{Sheet as Struct}
 use Rattle.part_verdict.specs.declared.Factor.{Factor}
 use Rattle.part_verdict.specs.declared.Part.{Part}
 use Rattle.part_verdict.specs.AsPart.{asVerdict, asFactor, asFactors, asPart}
@@ -55,6 +62,22 @@ asTotals t = record { factors = t .factors; different = t .different; free = t .
 -- "Each total is counted from the list"
 abbrev pub TotalsOf : List parts.Part → Totals → Type 0
 TotalsOf Ps t = asTotals t ≡ totalsOf Ps
+
+-- what is asked of a sheet whose run is worked out: monic, and 14 is not its case
+pub record RunGiven (s : Struct) : Type 0 where
+  pub monic : MonicModSquare (s .prime) (s .coefs) (s .degree)
+  pub again : s .run ≡ true → T (hasRun (s .prime) (listed (s .degree) (s .coefs)))
+
+-- the run length, if the sheet asks for it
+abbrev pub runOf : Sheet → ℕ
+runOf s = cond (s .run) (runLength (s .prime) (s .poly)) 0
+
+pub run-asked : (s : Sheet) → s .run ≡ true → runOf s ≡ runLength (s .prime) (s .poly)
+run-asked s e = rw e refl
+
+-- 0x14 with it, "low byte first"
+pub run-written : (s : Sheet) {r : ℕ} → r ≡ runOf s → s .run ≡ true → 0x14 ∷ r % 256 ∷ r / 256 ∷ [] ≡ runBytes s
+run-written s h e = ap (λ (k : ℕ). 0x14 ∷ twoBytes k) (h ∙ run-asked s e) ∙ sym (runBytes-asked s e)
 
 -- ---- the whole
 

@@ -17,6 +17,7 @@ use Rattle.specification.specs.SheetClaims.{Fits, GoodSheet}
 use Rattle.lists.specs.Members.{_∈_, All}
 use Rattle.lists.specs.Sums.{total-nil, total-cons}
 use Rattle.items.specs.Factors.{degrees, length-members}
+use Rattle.arrays.specs.Held.{MonicModSquare}
 use Rattle.layouts.specs.CommandBytes.{Byte}
 use Rattle.layouts.specs.AnswerLayout as layout
 use Rattle.layouts.specs.SheetLayout.{headBytes}
@@ -31,7 +32,7 @@ use Rattle.part_verdict.specs.ByItems.{PartHeld}
 use Rattle.part_list.specs.declared.Parts.{Parts}
 use Rattle.part_list.specs.HeldParts.{held}
 use Rattle.area.specs.Wrote.{Room, room-as}
-use Rattle.answer_writer.specs.AnswerArrays.{partsBytes, answer-is}
+use Rattle.answer_writer.specs.AnswerArrays.{partsBytes, RunGiven, answer-is}
 use Rattle.answer_writer.specs.Counting.{total-sum, records-sum, free-sum, Countable}
 
 -- the degrees that stand in a part are within the limit
@@ -45,7 +46,7 @@ abbrev pub heldParts : Parts → List parts.Part
 heldParts a = map asPart (held a)
 
 pub record Writable (s : Sheet) (a : Parts) : Type 0 where
-  pub degree : s .degree ≤ 32
+  pub given : RunGiven s
   pub count : a .count ≤ 32
   pub degrees : All DegreesFit (held a)
   pub fits : Fits (answerBytes (asSheet s) (heldParts a))
@@ -55,6 +56,9 @@ pub record Writable (s : Sheet) (a : Parts) : Type 0 where
   pub apart : different (listOf (heldParts a)) ≡ records (heldParts a)
 
 module _ {s : Sheet} {a : Parts} (h : Writable s a) where
+  pub writable-degree : s .degree ≤ 32
+  writable-degree = omega (arith, h .given .monic .array .fits)
+
   -- there is room for the answer as it is written
   pub answer-room : {area : List ℕ} → answerArea ≤ length area
       → Room area 0 (headBytes (asSheet s) ++ (partsBytes (asSheet s) (held a) ++ endBytes (asSheet s) (totalsOf (heldParts a))))
@@ -96,9 +100,10 @@ module _ (s : Sheet) (a : Parts) (is : heldParts a ≡ sheetParts (asSheet s)) w
   pub answer-of-sheet : answerBytes (asSheet s) (heldParts a) ≡ answer (asSheet s)
   answer-of-sheet = ap (answerBytes (asSheet s)) is ∙ sym (layout.answer-is (asSheet s))
 
-  pub writable : s .degree ≤ 32 → GoodSheet (asSheet s) → a .count ≤ 32 → All (PartHeld (s .prime)) (held a) → Writable s a
-  writable l g few arrays = record {
-    degree = l;
+  pub writable : MonicModSquare (s .prime) (s .coefs) (s .degree) → GoodSheet (asSheet s) → a .count ≤ 32 → All (PartHeld (s .prime)) (held a)
+      → Writable s a
+  writable m g few arrays = record {
+    given = record { monic = m; again = g .again };
     count = few;
     degrees = λ x i. let h = arrays x i in record { base = h .base .shaped .fits; first = h .first .shaped .fits; second = h .second .shaped .fits };
     fits = subst Fits (sym answer-of-sheet) (fits (asSheet s) g);

@@ -1,4 +1,5 @@
-// The answer written into the lent area: "0x01, 0x02, then each part as 0x11 with its factors, then 0x13, 0x0F".
+// The answer written into the lent area: "0x01, 0x02, then each part as 0x11 with its factors, then 0x13, 0x0F", with 0x14 before the 0x0F where the
+// sheet asks for its run.
 // What is public is so for the crates above, and no entry point of the library.
 ghost use mathlib.Core.Path.{_≡_};
 ghost use mathlib.Core.List.{flatMap};
@@ -7,13 +8,13 @@ ghost use lib.ListN.{length};
 ghost use Rattle.specification.specs.Limits.{answerArea};
 ghost use Rattle.specification.specs.Answers.{verdictNumber};
 ghost use Rattle.lists.specs.Members.{All};
-ghost use Rattle.layouts.specs.AnswerLayout.{factorBytes, partBytes, endBytes, answerBytes};
+ghost use Rattle.layouts.specs.AnswerLayout.{factorBytes, partBytes, runBytes, endBytes, answerBytes};
 ghost use Rattle.commands.specs.AsSheet.{asSheet};
 ghost use Rattle.part_verdict.specs.AsPart.{asVerdict, asFactor, asFactors, asPart};
 ghost use Rattle.part_list.specs.HeldParts.{held};
 ghost use Rattle.area.specs.Wrote.{Wrote, Room};
 ghost use Rattle.answer_writer.specs.FactorsWritten.{isSplit};
-ghost use Rattle.answer_writer.specs.AnswerArrays.{partsBytes, asTotals, TotalsOf};
+ghost use Rattle.answer_writer.specs.AnswerArrays.{partsBytes, asTotals, TotalsOf, RunGiven, runOf};
 ghost use Rattle.answer_writer.specs.Counting.{partFactors, Adds, Countable};
 ghost use Rattle.answer_writer.specs.Writable.{DegreesFit, heldParts, Writable};
 use area::put;
@@ -24,6 +25,7 @@ use part_list::Parts;
 use part_verdict::Factor;
 use part_verdict::Part;
 use part_verdict::Verdict;
+use run_length::run_length;
 use sheet_writer::write_coefficients;
 use sheet_writer::write_head;
 
@@ -166,9 +168,33 @@ pub fn count_totals(parts: Parts) -> Totals
     }
 }
 
-// All that follows the parts, whose totals these are: 0x13 and 0x0F.
-fn write_end(out: &mut [u8], at: usize, s: Sheet, t: Totals) -> usize
-    requires { ⌜ Room (now out) at (endBytes (asSheet s) (asTotals t)) ⌝ }
+// The run length of a sheet that asks for it, or 0.
+pub fn run_asked(s: Sheet) -> u16
+    requires { ⌜ RunGiven s ⌝ }
+    ensures { λ r. ⌜ r ≡ runOf (asSheet s) ⌝ }
+{
+    if s.run {
+        let f = s.coefs;
+        return run_length(f, s.degree, s.prime as u16);
+    }
+    0
+}
+
+// 0x14 with the run, "low byte first", if the sheet asks for it.
+fn write_run(out: &mut [u8], at: usize, s: Sheet, run: u16) -> usize
+    requires { ⌜ (run ≡ runOf (asSheet s)) × Room (now out) at (runBytes (asSheet s)) ⌝ }
+    ensures { λ r. ⌜ Wrote (now (out .entry)) (now (out .exit)) at (runBytes (asSheet s)) r ⌝ }
+{
+    if s.run {
+        put_three(out, at, 0x14, (run % 256) as u8, (run / 256) as u8)
+    } else {
+        at
+    }
+}
+
+// All that follows the parts, whose totals these are: 0x13, the run if it is asked for, and 0x0F.
+fn write_end(out: &mut [u8], at: usize, s: Sheet, t: Totals, run: u16) -> usize
+    requires { ⌜ (run ≡ runOf (asSheet s)) × Room (now out) at (endBytes (asSheet s) (asTotals t)) ⌝ }
     ensures { λ r. ⌜ Wrote (now (out .entry)) (now (out .exit)) at (endBytes (asSheet s) (asTotals t)) r ⌝ }
 {
     let next = put_four(
@@ -179,7 +205,8 @@ fn write_end(out: &mut [u8], at: usize, s: Sheet, t: Totals) -> usize
         t.different as u8,
         t.free as u8,
     );
-    put(out, next, 0x0F)
+    let last = write_run(out, next, s, run);
+    put(out, last, 0x0F)
 }
 
 // The answer to a sheet whose parts these are, from place 0 on.
@@ -188,7 +215,8 @@ pub fn write_answer(out: &mut [u8], s: Sheet, parts: Parts) -> usize
     ensures { λ r. ⌜ Wrote (now (out .entry)) (now (out .exit)) 0 (answerBytes (asSheet s) (heldParts parts)) r ⌝ }
 {
     let t = count_totals(parts);
+    let run = run_asked(s);
     let first = write_head(out, 0, s);
     let last = write_parts(out, first, s, parts);
-    write_end(out, last, s, t)
+    write_end(out, last, s, t, run)
 }

@@ -9,10 +9,10 @@ use lib.Seq.{ext-getD, getD-set-same, getD-set-other, getD-take, length-take-le,
 use Rattle.specification.specs.Polynomials.{monomial}
 use Rattle.algebra.specs.Ring.{zero-add, one-mul}
 use Rattle.algebra.specs.PolynomialRing.{_+ᴿ_, _·_}
-use Rattle.algebra.specs.CoefficientLists.{𝓩[x]/}
+use Rattle.algebra.specs.CoefficientLists.{constant-residue-one, 𝓩[x]/}
 use Rattle.algebra.specs.ListShapes.{getD-zeros}
 use Rattle.algebra.specs.Monomials.{x^}
-use Rattle.arrays.specs.Represents.{Represents, zeros, constant-residue-one}
+use Rattle.arrays.specs.Represents.{Represents, zeros}
 use Rattle.arrays.specs.Terms.{term-set}
 use Rattle.arrays.specs.Listed.{listed}
 use Rattle.arrays.specs.Held.{Shaped, Held, MonicArray, same-array, leads-monic}

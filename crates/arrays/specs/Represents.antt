@@ -7,8 +7,7 @@ use Prim.Native.Nat.{ℕ, zero, suc, _≤_, _<_, _-_, _+_}
 use native.Mathlib.Omega.{arith}
 use lib.ListN.{length, getD, drop, replicate, length-replicate}
 use lib.Seq.{drop-cons, getD-drop}
-use Rattle.algebra.specs.Identities.{con, _⊕_, _⊗_, _≈_, solve}
-use Rattle.algebra.specs.Residues.{residue, Residues, residue-zero, residue-one, residue-neg}
+use Rattle.algebra.specs.Residues.{residue, Residues, residue-zero, residue-neg}
 use Rattle.algebra.specs.PolynomialRing.{
   _+ᴿ_,
   _·_,
@@ -17,7 +16,6 @@ use Rattle.algebra.specs.PolynomialRing.{
   𝟏,
   x,
   constant,
-  constant-one,
   constant-neg,
   poly-ext,
   coef-zero,
@@ -25,9 +23,9 @@ use Rattle.algebra.specs.PolynomialRing.{
   coef-constant-mul,
 }
 use Rattle.algebra.specs.Degree.{Below, below-up, monic-one}
-use Rattle.algebra.specs.CoefficientLists.{ℤ[x]/, poly, Reduced, coef-poly, poly-cons, below-poly, 𝓩[x]/}
+use Rattle.algebra.specs.CoefficientLists.{ℤ[x]/, poly, Reduced, coef-poly, poly-cons, below-poly}
 use Rattle.algebra.specs.ListShapes.{getD-zeros}
-use Rattle.algebra.specs.ListDivision.{poly-zeros}
+use Rattle.algebra.specs.ListDivision.{poly-zeros, poly-unit}
 
 -- r is the array of p: its 33 coefficients, each below n
 pub record Represents (n : ℕ) (r : List ℕ) (p : ℤ[x]/ n) : Type 0 where
@@ -62,24 +60,16 @@ module _ (n : ℕ) where
     is = poly-zeros n 33;
   }
 
-  pub constant-residue-one : constant {𝓡 = Residues n} (residue n 1) ≡ 𝟏
-  constant-residue-one = ap constant (residue-one n) ∙ constant-one (Residues n)
-
-  pub poly-unit : (k : ℕ) → poly n (1 ∷ replicate k 0) ≡ 𝟏
-  poly-unit k =
-      poly-cons n 1 (replicate k 0) ∙ ap₂ (λ c f. c +ᴿ x · f) constant-residue-one (poly-zeros n k)
-      ∙ solve (𝓩[x]/ n) 1 (λ x. con 1 ⊕ x ⊗ con 0 ≈ con 1) tt x
-
   -- the array of 1
   pub unit : 1 < n → Represents n (1 ∷ replicate 32 0) 𝟏
-  unit large = record { reduced = record { len = ap suc (length-replicate {A = ℕ} 32 0); low = low }; is = poly-unit 32 }
+  unit large = record { reduced = record { len = ap suc (length-replicate {A = ℕ} 32 0); low = low }; is = poly-unit n 32 }
     where
       low : (k : ℕ) → getD (1 ∷ replicate 32 0) k 0 < n
       low zero = large
       low (suc k) = rw (getD-zeros 32 k) (omega arith)
 
   pub below-unit : (k : ℕ) → Below 1 (poly n (1 ∷ replicate k 0))
-  below-unit k = rw (poly-unit k) (monic-one .below)
+  below-unit k = rw (poly-unit n k) (monic-one .below)
 
   pub constant-residue-neg : 0 < n → {c : ℕ} → c ≤ n → constant {𝓡 = Residues n} (residue n (n - c)) ≡ -ᴿ constant (residue n c)
   constant-residue-neg pos {c} l = ap constant (residue-neg n pos c l) ∙ constant-neg (residue n c)

@@ -1,10 +1,11 @@
-// Arrays of 33 coefficients, constant first: their type, the powers of x, how many terms there are, and a bound of all entries.
+// Arrays of 33 coefficients, constant first: their type, the powers of x, how many terms there are, a bound of all entries, and whether two are equal.
 // What they hold as polynomials is in specs/. All is public for the crates above, and no entry point of the library.
 ghost use mathlib.Core.Path.{_≡_};
 ghost use Prim.Native.Nat.{_<_, _≤_};
 ghost use lib.Dec.{ltb};
 ghost use lib.ListN.{length};
 ghost use Rattle.specification.specs.Lists.{allPass};
+ghost use Rattle.lists.specs.Decides.{Decides};
 ghost use Rattle.arrays.specs.Represents.{ZeroFrom};
 ghost use Rattle.arrays.specs.Sizes.{Size};
 ghost use Rattle.arrays.specs.MonomialArray.{IsMonomial};
@@ -54,6 +55,20 @@ pub fn all_below(a: Coefs, n: u16) -> bool
             return false;
         }
         i += 1;
+    }
+    true
+}
+
+// a and b have the same coefficients.
+pub fn equal(a: Coefs, b: Coefs) -> bool
+    ensures { λ r. ⌜ Decides r (a ≡ b) ⌝ }
+{
+    let mut j: usize = 0;
+    while j < 33 {
+        if a[j] != b[j] {
+            return false;
+        }
+        j += 1;
     }
     true
 }

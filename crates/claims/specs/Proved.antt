@@ -1,6 +1,6 @@
--- The promises of documents 00 and 01 about every accepted sheet, as the claims of `specification` state them.
--- Proves term 3 of the answer's bytes and of a call, items 1 to 9, what is read off an answer, the degrees, the settings, the answer's size and
--- bytes, which sheets are taken, that inputs too long are refused, and the reader. Assumes nothing.
+-- The promises of documents 00, 01 and 02 about every accepted sheet, as the claims of `specification` state them.
+-- Proves term 3 of the answer's bytes and of a call, items 1 to 9, what is read off an answer, the degrees, the settings, the run length, the answer's
+-- size and bytes, which sheets are taken, that inputs too long are refused, and the reader. Assumes nothing.
 use mathlib.Core.Path.{_≡_, refl, sym, _∙_, ap, subst}
 use mathlib.Core.Logic.{_↔_}
 use mathlib.Core.List.{List, [], _∷_}
@@ -26,6 +26,7 @@ use Rattle.specification.specs.Longest as claimed
 use Rattle.specification.specs.ReaderClaims.{AnswerTo, ReaderExact, ReaderRefuses}
 use Rattle.specification.specs.SheetClaims.{AnswersFit, Fits, GoodSheet, LongInputs, SheetsTaken}
 use Rattle.specification.specs.Settings.{Settings}
+use Rattle.specification.specs.RunClaims.{Run, Runs, RunsShown, NoRun}
 use Rattle.algebra.specs.Numbers.{square-large}
 use Rattle.algebra.specs.Fields.{Prime, taken-prime}
 use Rattle.lists.specs.Members.{_∈_, All, all-map}
@@ -38,13 +39,15 @@ use Rattle.items.specs.PartValues.{values}
 use Rattle.layouts.specs.SheetsRead.{read-is-good, read-is-written, accepted-exactly}
 use Rattle.layouts.specs.SheetLength.{fault-place, long-refused}
 use Rattle.layouts.specs.AnswerLayout.{sheetParts}
-use Rattle.layouts.specs.AnswerReadBack.{MonicFactors, list-back, total-back, different-back, free-back, longest-in}
+use Rattle.layouts.specs.AnswerReadBack.{MonicFactors, list-back, total-back, different-back, free-back, run-shown, run-back, longest-in}
 use Rattle.items.specs.PartShapes.{PartShape, partDegrees, records}
 use Rattle.layouts.specs.AnswerSize.{answer-fits, answer-is-bytes}
 use Rattle.layouts.specs.AnswersAccepted as reader
 use Rattle.layouts.specs.AnswersAccepted.{split-written}
 use Rattle.items.specs.AllParts.{Known, known, parts-monic}
 use Rattle.items.specs.LongestHolds.{longest, different-records, part-longest}
+use Rattle.runs.specs.NoRun as none
+use Rattle.runs.specs.RunsHold.{run-holds}
 use Rattle.settings.specs.SettingsCounted.{settings-counted}
 
 module _ (s : Sheet) (g : GoodSheet s) where
@@ -161,6 +164,20 @@ degrees-add-up bytes s e =
 
 pub settings : Settings
 settings bytes s e = let g = read-is-good bytes s e in rw (free-back s) (settings-counted (s .prime) (prime s g) (monic s g))
+
+-- ---- run lengths
+
+pub runs : Runs
+runs bytes s e asked =
+    let g = read-is-good bytes s e in
+    subst (Run (s .prime) (s .poly)) (sym (run-back s asked)) (run-holds (prime s g) (monic s g) (g .monic .positive) (g .again asked))
+
+pub runs-shown : RunsShown
+runs-shown bytes s e = run-shown s
+
+-- 14 turns back only what has no run
+pub no-run : NoRun
+no-run p f t m = let prime = taken-prime p t in none.no-run prime (from-claimed (omega (arith, square-large p (prime .large))) m)
 
 -- ---- answers and sheets
 

@@ -1,24 +1,25 @@
 -- The specification's lists of all polynomials modulo p: `polynomials p k`, those of k coefficients; `monicsTo p d`, the monic ones of degree 1 to d.
--- Proves that they hold exactly these, in the order of item 3. Assumes nothing.
-use mathlib.Core.Path.{_≡_, refl, _∙_, ap, subst}
+-- Proves that they hold exactly these, in the order of item 3, and how many have k coefficients. Assumes nothing.
+use mathlib.Core.Path.{_≡_, refl, sym, _∙_, ap, subst}
 use mathlib.Core.List.{[], _∷_, _++_, map, Memᴰ·of-map, Memᴰ·map, Memᴰ·cast, List·Memᴰ·append-cases, Memᴰ·append-left, Memᴰ·append-right}
 use mathlib.Core.List.{List·Memᴰ·head as here}
 use mathlib.Core.Logic.{inl, inr, ⊎-elim}
-use Prim.Native.Nat.{ℕ, zero, suc, _≤_, _<_, _+_}
-use native.Mathlib.Nat.{eq-or-lt-of-le}
+use Prim.Native.Nat.{ℕ, zero, suc, _≤_, _<_, _+_, _*_, _^_}
+use native.Mathlib.Nat.{eq-or-lt-of-le, pow-zero, pow-suc}
 use native.Mathlib.Omega.{arith}
-use lib.ListN.{length, getD, take, length-append}
+use lib.ListN.{length, getD, take, length-append, length-map}
 use lib.Seq.{length-take-le}
 use Rattle.specification.specs.Lists.{upFrom, below}
 use Rattle.specification.specs.Polynomials.{Poly, degree}
 use Rattle.specification.specs.Powers.{polynomials, monics, monicsTo}
 use Rattle.specification.specs.Items1to3.{Smaller, Before}
 use Rattle.algebra.specs.CoefficientLists.{Reduced}
-use Rattle.lists.specs.NumbersFrom.{upFrom-member, upFrom-has}
+use Rattle.lists.specs.NumbersFrom.{upFrom-length, upFrom-member, upFrom-has}
 use Rattle.algebra.specs.ListShapes.{low-take}
 use Rattle.lists.specs.Members.{_∈_}
 use Rattle.lists.specs.InOrder.{InOrder, in-order-by, in-order-append, in-order-map, in-order-flatMap, upFrom-in-order}
-use Rattle.lists.specs.FlatMaps.{mem-flatMap, flatMap-mem}
+use Rattle.lists.specs.Sums.{total-constant}
+use Rattle.lists.specs.FlatMaps.{mem-flatMap, flatMap-mem, length-flatMap}
 use Rattle.items.specs.MonicLists.{MonicList}
 use Rattle.lists.specs.Ends.{then, last-again}
 
@@ -53,6 +54,14 @@ module _ (p : ℕ) (pos : 0 < p) where
       flatMap-mem (λ (f : Poly). map (before f) (below p)) (polynomials p k)
       (polynomials-has k f (record { len = omega (arith, r .len); low = λ i. r .low (suc i) }))
       (Memᴰ·map (before f) (upFrom-has 0 p (omega arith) (omega (arith, r .low 0))))
+
+pub length-polynomials : (p k : ℕ) → length (polynomials p k) ≡ p ^ k
+unfolding polynomials below
+length-polynomials p zero = sym (pow-zero p)
+length-polynomials p (suc k) =
+    length-flatMap (λ (f : Poly). map (before f) (below p)) (polynomials p k)
+    ∙ total-constant _ p (polynomials p k) (λ f. length-map (upFrom 0 p) (before f) ∙ upFrom-length 0 p)
+    ∙ ap (λ (n : ℕ). n * p) (length-polynomials p k) ∙ sym (pow-suc p k)
 
 pub polynomials-in-order : (p k : ℕ) → InOrder Smaller (polynomials p k)
 unfolding polynomials below

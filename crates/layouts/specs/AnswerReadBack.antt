@@ -1,30 +1,32 @@
--- What is read off an answer's bytes, where the factors of its parts are monic: its commands, the list of the parts, and its three totals.
+-- What is read off an answer's bytes, where the factors of its parts are monic: its commands, the list of the parts, its three totals and its run.
 -- Proves them of every sheet's answer, and carries term 3 from the list of the definitions to the bytes. Assumes nothing.
-use mathlib.Core.Path.{_≡_, refl, _∙_, ap, _≡⟨_⟩_, _∎}
-use mathlib.Core.Bool.{false}
+use mathlib.Core.Path.{_≡_, refl, sym, _∙_, ap, _≡⟨_⟩_, _∎}
+use mathlib.Core.Bool.{Bool, true, false, cond}
 use mathlib.Core.List.{List, [], _∷_, _++_, append-assoc, append-nil, flatMap}
 use mathlib.Core.List.{List·Memᴰ·head as here}
 use Prim.Native.Nat.{ℕ}
 use lib.ListN.{replicate}
 use lib.Dec.{eqb}
-use Rattle.specification.specs.Lists.{first}
+use Rattle.specification.specs.Lists.{first, anyPasses}
 use Rattle.specification.specs.Polynomials.{Poly, degree, lower, monomial}
 use Rattle.specification.specs.Parts.{Factor, Part}
 use Rattle.specification.specs.Totals.{copies, listOf, total, different, freeDigits, Totals, totalsOf}
-use Rattle.specification.specs.Commands.{Command, command, operandCount, commands, firstWith}
+use Rattle.specification.specs.Commands.{Command, command, twoBytes, fromTwoBytes, operandCount, commands, firstWith, has}
 use Rattle.specification.specs.Coefficients.{coefficientCode, coefficientCommands}
+use Rattle.specification.specs.RunLength.{runLength}
 use Rattle.specification.specs.Sheets.{Sheet, headCommands}
-use Rattle.specification.specs.Answers.{factorCommands, partCommands, endCommands, answerCommands, answer}
-use Rattle.specification.specs.FactorList.{withCoefficients, factorsIn, factorList, factorTotal, differentTotal, freeTotal}
+use Rattle.specification.specs.Answers.{factorCommands, partCommands, runCommands, endCommands, answerCommands, answer}
+use Rattle.specification.specs.FactorList.{withCoefficients, factorsIn, factorList, factorTotal, differentTotal, freeTotal, runIn}
 use Rattle.specification.specs.Longest as claimed
 use Rattle.specification.specs.Term3 as term3
 use Rattle.specification.specs.Limits.{_²}
 use Rattle.lists.specs.Members.{All, all-cons, all-tail, all-append}
 use Rattle.lists.specs.FlatMaps.{flatMap-cons}
+use Rattle.layouts.specs.CommandBytes.{all-asked, two-back}
 use Rattle.layouts.specs.CoefficientBytes.{all-coefficients}
 use Rattle.layouts.specs.AnswerLayout.{sheetParts}
 use Rattle.items.specs.ListOfParts.{copies-cons, listOf-cons}
-use Rattle.layouts.specs.CommandsReadBack.{WellFormed, commands-back, Without, firstWith-past, factors-past, NoCoefficient, written-back}
+use Rattle.layouts.specs.CommandsReadBack.{WellFormed, commands-back, Without, firstWith-past, has-past, factors-past, NoCoefficient, written-back}
 
 -- every factor of every part is monic modulo n
 abbrev pub MonicFactors : ℕ → List Part → Type 0
@@ -51,13 +53,13 @@ module _ {C : Command → Type 0} (s : Sheet) (k : Kinds (s .prime) C) where
 
 -- each command has the operands that its code asks for
 well-formed : (s : Sheet) (Ps : List Part) → All WellFormed (answerCommands s Ps)
-unfolding answerCommands headCommands endCommands operandCount first
+unfolding answerCommands headCommands endCommands runCommands operandCount first
 well-formed s Ps =
     all-cons refl (all-cons refl (all-append (all-parts s (record {
       part = λ d m v. refl;
       factor = λ e t. refl;
       coefficients = λ f. all-coefficients WellFormed (s .prime) 0 f (λ i v. refl);
-    }) Ps) (all-cons refl (all-cons refl (λ c i. elim i [ ])))))
+    }) Ps) (all-cons refl (all-append (all-asked WellFormed (s .run) _ refl) (all-cons refl (λ c i. elim i [ ]))))))
 
 -- no part has a code that is none of 0x11, 0x12 and a coefficient's
 parts-without : (s : Sheet) (code : ℕ) → eqb 0x11 code ≡ false → eqb 0x12 code ≡ false → eqb (coefficientCode (s .prime)) code ≡ false → (Ps : List Part)
@@ -100,9 +102,13 @@ factors-head : (s : Sheet) (cs : List Command) → factorsIn (headCommands s ++ 
 unfolding headCommands factorsIn
 factors-head s cs = refl
 
+pub end-without : (s : Sheet) (t : Totals) → Without 0x12 (endCommands s t)
+unfolding endCommands runCommands
+end-without s t = all-cons refl (all-append (all-asked (λ c. eqb (c .code) 0x12 ≡ false) (s .run) _ refl) (all-cons refl (λ c i. elim i [ ])))
+
 factors-end : (s : Sheet) (t : Totals) → factorsIn (endCommands s t) ≡ []
-unfolding endCommands factorsIn
-factors-end s t = refl
+unfolding factorsIn
+factors-end s t = ap factorsIn (sym (append-nil (endCommands s t))) ∙ factors-past (endCommands s t) [] (end-without s t)
 
 other-end : (s : Sheet) (t : Totals) → NoCoefficient (endCommands s t)
 unfolding endCommands
@@ -148,17 +154,25 @@ module _ (s : Sheet) where
       listOf Ps ++ [] ≡⟨ append-nil (listOf Ps) ⟩
       listOf Ps ∎
 
-  -- the first command with a code that stands in the head or in the end alone
+  -- what stands in the head or in the end alone is found past the parts
+  module _ (code : ℕ) (part : eqb 0x11 code ≡ false) (factor : eqb 0x12 code ≡ false) (coefficient : eqb (coefficientCode (s .prime)) code ≡ false)
+      (head : Without code (headCommands s)) where
+    end-back : firstWith code (commands (answer s)) ≡ firstWith code (endCommands s (totalsOf Ps))
+    unfolding answerCommands
+    end-back =
+        ap (firstWith code) answer-commands
+        ∙ firstWith-past code (headCommands s) (flatMap (partCommands s) Ps ++ endCommands s (totalsOf Ps)) head
+        ∙ firstWith-past code (flatMap (partCommands s) Ps) (endCommands s (totalsOf Ps)) (parts-without s code part factor coefficient Ps)
+
+    end-has : has code (commands (answer s)) ≡ has code (endCommands s (totalsOf Ps))
+    unfolding answerCommands
+    end-has =
+        ap (has code) answer-commands
+        ∙ has-past code (headCommands s) (flatMap (partCommands s) Ps ++ endCommands s (totalsOf Ps)) head
+        ∙ has-past code (flatMap (partCommands s) Ps) (endCommands s (totalsOf Ps)) (parts-without s code part factor coefficient Ps)
+
   pub head-back : firstWith 0x01 (commands (answer s)) ≡ command 0x01 (s .prime ∷ [])
   head-back = rw answer-commands (unfold answerCommands headCommands firstWith first in refl)
-
-  end-back : (code : ℕ) → eqb 0x11 code ≡ false → eqb 0x12 code ≡ false → eqb (coefficientCode (s .prime)) code ≡ false → Without code (headCommands s)
-      → firstWith code (commands (answer s)) ≡ firstWith code (endCommands s (totalsOf Ps))
-  unfolding answerCommands
-  end-back code h i j w =
-      ap (firstWith code) answer-commands
-      ∙ firstWith-past code (headCommands s) (flatMap (partCommands s) Ps ++ endCommands s (totalsOf Ps)) w
-      ∙ firstWith-past code (flatMap (partCommands s) Ps) (endCommands s (totalsOf Ps)) (parts-without s code h i j Ps)
 
   totals : firstWith 0x13 (commands (answer s)) ≡ firstWith 0x13 (endCommands s (totalsOf Ps))
   totals = end-back 0x13 refl refl refl (unfold headCommands in all-cons refl (all-cons refl (λ c i. elim i [ ])))
@@ -174,6 +188,27 @@ module _ (s : Sheet) where
   pub free-back : freeTotal (answer s) ≡ freeDigits Ps
   unfolding freeTotal firstWith first endCommands
   free-back = rw totals refl
+
+  -- a run is shown where it is asked for, and is the run length
+  no-run : Without 0x14 (headCommands s)
+  unfolding headCommands
+  no-run = all-cons refl (all-cons refl (λ c i. elim i [ ]))
+
+  pub run-shown : has 0x14 (commands (answer s)) ≡ s .run
+  unfolding endCommands runCommands has anyPasses
+  run-shown = end-has 0x14 refl refl refl no-run ∙ asked (s .run) (command 0x14 _) refl
+    where
+      asked : (b : Bool) (c : Command) → c .code ≡ 0x14 → has 0x14 (cond b (c ∷ []) [] ++ (command 0x0F [] ∷ [])) ≡ b
+      asked true c e = rw e refl
+      asked false c e = refl
+
+  run-command : s .run ≡ true → firstWith 0x14 (commands (answer s)) ≡ command 0x14 (twoBytes (runLength (s .prime) (s .poly)))
+  unfolding endCommands runCommands firstWith first
+  run-command e = end-back 0x14 refl refl refl no-run ∙ rw e refl
+
+  pub run-back : s .run ≡ true → runIn (answer s) ≡ runLength (s .prime) (s .poly)
+  unfolding runIn
+  run-back e = ap (λ (c : Command). fromTwoBytes (c .operands)) (run-command e) ∙ two-back (runLength (s .prime) (s .poly))
 
   -- "Term 3 is read off bytes"
   pub longest-in : {n : ℕ} → MonicFactors n Ps → claimed.Longest (s .prime ²) (s .poly) (listOf Ps) (total Ps) (different (listOf Ps))

@@ -12,15 +12,18 @@ use Rattle.specification.specs.Limits.{taken, degreeLimit, answerArea, _²}
 use Rattle.specification.specs.Polynomials.{Poly, degree, lower}
 use Rattle.specification.specs.Parts.{Verdict, basic, solid, power, split, Factor, Part}
 use Rattle.specification.specs.Totals.{listOf, totalsOf}
+use Rattle.specification.specs.Commands.{command, twoBytes}
+use Rattle.specification.specs.RunLength.{runLength}
 use Rattle.specification.specs.Sheets.{Sheet}
-use Rattle.specification.specs.Answers.{verdictNumber, factorCommands, partCommands, endCommands, answerCommands, answer}
+use Rattle.specification.specs.Answers.{verdictNumber, factorCommands, partCommands, runCommands, endCommands, answerCommands, answer}
 use Rattle.specification.specs.SheetClaims.{GoodSheet}
 use Rattle.lists.specs.Tests.{passes}
 use Rattle.algebra.specs.TakenPrimes.{fits-byte, square-fits-byte}
 use Rattle.lists.specs.Members.{All, all-cons, all-tail, all-append}
 use Rattle.lists.specs.Sums.{total as sum}
 use Rattle.items.specs.Factors.{degrees}
-use Rattle.layouts.specs.CommandBytes.{Byte, byte-none, ByteCommand, bytes-of}
+use Rattle.runs.specs.RunLengths.{run-limit}
+use Rattle.layouts.specs.CommandBytes.{Byte, byte-none, ByteCommand, bytes-of, all-asked, length-asked, bytes-two}
 use Rattle.lists.specs.FlatMaps.{length-weighed}
 use Rattle.layouts.specs.CoefficientBytes.{length-coefficients, byte-coefficients, length-lower, lower-reduced}
 use Rattle.layouts.specs.SheetLayout.{headBytes, headBytes-is}
@@ -28,6 +31,7 @@ use Rattle.layouts.specs.SheetSize.{bytes-head}
 use Rattle.layouts.specs.AnswerLayout.{
   factorBytes,
   partBytes,
+  runBytes,
   endBytes,
   answerBytes,
   sheetParts,
@@ -43,7 +47,12 @@ use Rattle.items.specs.PartShapes.{partDegree, partDegrees, FactorShape, PartSh
 
 -- the head and the end together
 abbrev endsRoom : ℕ
-endsRoom = 9
+endsRoom = 12
+
+-- 0x14 with its two bytes, or nothing
+length-run : (s : Sheet) → length (runBytes s) ≤ 3
+unfolding runCommands
+length-run s = length-asked (s .run) (command 0x14 (twoBytes (runLength (s .prime) (s .poly))))
 
 module _ {n : ℕ} (s : Sheet) where
   -- a factor of degree e takes at most 3 + 3·e bytes, and its repeats weigh at least e
@@ -87,6 +96,8 @@ module _ {n : ℕ} (s : Sheet) where
         ap length (headBytes-is s),
         length-parts Ps h,
         ap length (endBytes-is s (totalsOf Ps)),
+        length-append (runBytes s) (0x0F ∷ []),
+        length-run s,
       )
 
 -- ---- how large each is
@@ -124,11 +135,13 @@ module _ (s : Sheet) (small : s .prime ² ≤ 256) where
       (all-append (bytes-factors (P .splitting .factors) (P-is .factors) (omega (arith, P-is .degrees))) (bytes-parts Ps (all-tail h) (omega arith)))
 
   bytes-end : (Ps : List Part) → All (PartShape (p ²)) Ps → Byte (partDegrees Ps) → All ByteCommand (endCommands s (totalsOf Ps))
-  unfolding endCommands
+  unfolding endCommands runCommands
   bytes-end Ps h u =
       let total-low = total-bound Ps h in
       all-cons (all-cons (omega arith) (all-cons (omega arith) (all-cons (omega (arith, different-bound (listOf Ps)))
-      (all-cons (omega (arith, free-bound Ps h)) byte-none)))) (all-cons (all-cons (omega arith) byte-none) (λ c i. elim i [ ]))
+      (all-cons (omega (arith, free-bound Ps h)) byte-none))))
+      (all-append (all-asked ByteCommand (s .run) _ (all-cons (omega arith) (bytes-two (runLength p (s .poly)) (omega (arith, run-limit p (s .poly))))))
+      (all-cons (all-cons (omega arith) byte-none) (λ c i. elim i [ ])))
 
   answer-bytes : (Ps : List Part) → Byte p → Byte (degree (s .poly)) → All (PartShape (p ²)) Ps → Byte (partDegrees Ps) → All Byte (answerBytes s Ps)
   unfolding answerCommands

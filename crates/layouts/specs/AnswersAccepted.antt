@@ -20,8 +20,9 @@ use Rattle.specification.specs.Calls.{Outcome, success, refused, answerTo, spli
 use Rattle.specification.specs.SheetClaims.{GoodSheet}
 use Rattle.lists.specs.Tests.{picked, passes, fails}
 use Rattle.lists.specs.SameLists.{same-equal, same-refl}
+use Rattle.layouts.specs.ReaderBounds.{numbered-within}
 use Rattle.layouts.specs.SheetsRead.{read-is-good, read-is-written, written-is-read}
-use Rattle.layouts.specs.AnswerReadBack.{head-back}
+use Rattle.layouts.specs.AnswerReadBack.{head-back, run-shown}
 use Rattle.layouts.specs.SheetLength.{fault-number}
 
 -- ---- what a call that succeeds has found
@@ -56,7 +57,7 @@ split-call area t = picked (Split area t) (ltb area answerArea) (λ k e. absurd 
   where
     go : T (not (ltb area answerArea)) → (r : Reading) → readSheet t ≡ r → Split area t (answerTo r)
     go u (accepted s) e = unfold answerTo in λ z. (nltb→le area answerArea u, (s, read-is-good t s e, refl, read-is-written t s e))
-    go u (fault k at) e = unfold answerTo in λ z. absurd (omega (arith, fault-number t k at e))
+    go u (fault k at) e = unfold answerTo in λ z. absurd (omega (arith, numbered-within k (fault-number t k at e)))
 
 -- ---- the two calls undo each other
 
@@ -83,7 +84,7 @@ prime-back s = ap (λ (c : Command). operand c 0) (head-back s)
 module _ (multiplies : (s : Sheet) → GoodSheet s → product (s .prime ²) (factorList (answer s)) ≡ s .poly) where
   sheetIn-answer : (s : Sheet) → GoodSheet s → sheetIn (answer s) ≡ sheetBytes s
   unfolding sheetIn
-  sheetIn-answer s g = rw (prime-back s, multiplies s g)
+  sheetIn-answer s g = rw (prime-back s, multiplies s g, run-shown s)
 
   read-answer : (area : ℕ) → answerArea ≤ area → (s : Sheet) → GoodSheet s → readCall area (answer s) ≡ success (sheetBytes s)
   unfolding readCall

@@ -25,6 +25,7 @@ use Rattle.specification.specs.Coefficients.{
 }
 use Rattle.specification.specs.Sheets.{Sheet, sheetOf}
 use Rattle.specification.specs.SheetClaims.{GoodSheet}
+use Rattle.algebra.specs.ListShapes.{degree-monomial}
 use Rattle.layouts.specs.ReaderLaws.{
   Holds,
   holds-then,
@@ -50,7 +51,7 @@ use Rattle.layouts.specs.CoefficientBytes.{
   lower-top,
   lower-reduced,
 }
-use Rattle.layouts.specs.GoodSheets.{monomial-low, degree-monomial, monomial-good, set-good}
+use Rattle.layouts.specs.GoodSheets.{monomial-low, monomial-good, set-good}
 
 -- ---- read
 

@@ -1,6 +1,6 @@
 -- Commands found again in their bytes, and what is read off a list of commands.
--- Proves that well-formed commands are what their bytes are cut into, that the first command with a code is found past others, and that a monic
--- list is found again from x to its degree and the commands written after it. Assumes nothing.
+-- Proves that well-formed commands are what their bytes are cut into, that a command with a code, and the first, is found past others, and that a
+-- monic list is found again from x to its degree and the commands written after it. Assumes nothing.
 use mathlib.Core.Path.{_≡_, refl, sym, _∙_, ap}
 use mathlib.Core.Bool.{true, false}
 use mathlib.Core.List.{List, [], _∷_, _++_, flatMap}
@@ -11,11 +11,12 @@ use lib.ListN.{length, take, drop, set, length-append}
 use lib.Seq.{set-at, append-snoc, take-append-seam, drop-at}
 use lib.Dec.{eqb}
 use Rattle.specification.specs.Polynomials.{Poly, degree, lower, monomial}
-use Rattle.specification.specs.Commands.{Command, command, commandBytes, bytesOf, operandCount, commandsAfter, commands, firstWith}
+use Rattle.specification.specs.Commands.{Command, command, commandBytes, bytesOf, operandCount, commandsAfter, commands, firstWith, has}
 use Rattle.specification.specs.Coefficients.{isCoefficient, coefficientCommand, coefficientCommands, withCoefficient}
 use Rattle.specification.specs.FactorList.{withCoefficients, factorsIn}
 use Rattle.specification.specs.Longest as claimed
 use Rattle.lists.specs.Members.{All, all-tail}
+use Rattle.lists.specs.AllAny.{any-past}
 use Rattle.lists.specs.Firsts.{first-past}
 use Rattle.layouts.specs.CoefficientBytes.{is-coefficient, value-back, length-lower, lower-top}
 
@@ -58,6 +59,10 @@ Without code cs = All (λ (c : Command). eqb (c .code) code ≡ false) cs
 pub firstWith-past : (code : ℕ) (cs ds : List Command) → Without code cs → firstWith code (cs ++ ds) ≡ firstWith code ds
 unfolding firstWith
 firstWith-past code cs ds h = first-past (λ (c : Command). eqb (c .code) code) (command code []) cs ds h
+
+pub has-past : (code : ℕ) (cs ds : List Command) → Without code cs → has code (cs ++ ds) ≡ has code ds
+unfolding has
+has-past code cs ds h = any-past (λ (c : Command). eqb (c .code) code) cs ds h
 
 pub factors-past : (cs ds : List Command) → Without 0x12 cs → factorsIn (cs ++ ds) ≡ factorsIn ds
 unfolding factorsIn

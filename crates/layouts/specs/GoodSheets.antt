@@ -1,25 +1,25 @@
 -- Good sheets: a taken prime p and a monic polynomial modulo p² of degree 1 to 32.
--- Proves that x to a power makes one, and that a coefficient below the top may be set. Assumes nothing.
+-- Proves that x to a power makes one, that a coefficient below the top may be set, and when the run may be asked for. Assumes nothing.
 use mathlib.Core.Path.{_≡_, sym, _∙_, ap}
 use mathlib.Core.Logic.{⊎-elim, _≢_}
+use mathlib.Core.Bool.{Bool, true, false≢true}
 use mathlib.Core.List.{[], _∷_}
 use Prim.Native.Nat.{ℕ, _≤_, _<_}
 use native.Mathlib.Nat.{eq-or-lt-of-le}
 use native.Mathlib.Omega.{arith}
-use lib.ListN.{length, getD, set, replicate, length-append, length-replicate, length-set, getD-replicate, List·getD-append}
+use lib.ListN.{length, getD, set, replicate, length-replicate, length-set, getD-replicate, List·getD-append}
 use lib.Seq.{getD-at, getD-set-same, getD-set-other}
 use lib.Dec.{T}
 use Rattle.specification.specs.Limits.{taken, degreeLimit, _²}
-use Rattle.specification.specs.Polynomials.{degree, monomial}
+use Rattle.specification.specs.Polynomials.{Poly, degree, monomial}
+use Rattle.specification.specs.RunLength.{hasRun}
 use Rattle.specification.specs.Sheets.{Sheet, sheetOf}
 use Rattle.specification.specs.SheetClaims.{GoodSheet}
 use Rattle.algebra.specs.Numbers.{lt-or-le, square-large}
 use Rattle.algebra.specs.Fields.{taken-prime}
+use Rattle.algebra.specs.ListShapes.{degree-monomial}
 
 -- ---- x to the power n
-
-pub degree-monomial : (n : ℕ) → degree (monomial n) ≡ n
-degree-monomial n = omega (arith, length-append {A = ℕ} (replicate n 0) (1 ∷ []), length-replicate {A = ℕ} n 0)
 
 pub monomial-low : (n i : ℕ) → i < n → getD (monomial n) i 0 ≡ 0
 monomial-low n i l =
@@ -33,6 +33,7 @@ monomial-good p n t l u = record {
   prime = t;
   monic = record { positive = omega (arith, degree-monomial n); leadsWithOne = monomial-top n (degree (monomial n)) (sym (degree-monomial n)); reduced = low };
   fits = omega (arith, degree-monomial n);
+  again = λ e. absurd (false≢true e);
 }
   where
     square : 1 < p ²
@@ -54,6 +55,7 @@ set-good s i v g l u = record {
     reduced = low;
   };
   fits = omega (arith, long, g .fits);
+  again = λ e. absurd (false≢true e);
 }
   where
     long : length (set (s .poly) i v) ≡ length (s .poly)
@@ -73,3 +75,9 @@ set-good s i v g l u = record {
         (λ k.
         ⊎-elim (λ e. rw (← e, getD-set-same (s .poly) i v 0 (omega arith)) u) (λ k. other j (omega arith) (omega (arith, long))) (eq-or-lt-of-le k))
         (lt-or-le j i)
+
+-- ---- the run asked for
+
+pub asked-good : {p : ℕ} {f : Poly} {run : Bool} → GoodSheet (sheetOf p f) → (run ≡ true → T (hasRun p f))
+    → GoodSheet (record { prime = p; poly = f; run = run })
+asked-good g again = record { prime = g .prime; monic = g .monic; fits = g .fits; again = again }

@@ -1,22 +1,31 @@
 -- How far readers go: `Bounded r Good most last`, r takes at most `most` bytes, looks at none past the place `last` after where it begins, and what it
 -- reads is good; its faults stand where it looked, and have numbers. Proves it of each way to make a reader. Assumes nothing.
 use mathlib.Core.Path.{_≡_, refl, _∙_, ap}
-use mathlib.Core.Bool.{Bool, true, false, cond}
+use mathlib.Core.Bool.{Bool, true, false, cond, _&&_}
 use mathlib.Core.List.{List, [], _∷_}
 use Prim.Native.Nat.{ℕ, zero, suc, _≤_, _<_, _+_, _-_}
 use native.Mathlib.Omega.{arith}
 use lib.ListN.{length, take}
-use lib.Dec.{T, eqb}
+use lib.Dec.{T, eqb, leb, leb→le}
+use Rattle.specification.specs.Lists.{allPass, anyPasses}
+use Rattle.specification.specs.Sheets.{sheetNumbers}
 use Rattle.specification.specs.Reading.{Read, got, stop, Reader, done, goOn, _>>=_, judged, onNext, byte, commandByte, withOperand, flag}
-use Rattle.lists.specs.Tests.{picked}
-
--- the last number of a sheet's faults
-abbrev pub lastNumber : ℕ
-lastNumber = 8
+use Rattle.lists.specs.Tests.{picked, left, right}
+use Rattle.lists.specs.AllAny.{member-passes}
 
 -- a number of a sheet's faults
 abbrev pub Numbered : ℕ → Type 0
-Numbered k = (2 ≤ k) × (k ≤ lastNumber)
+Numbered k = T (anyPasses (eqb k) sheetNumbers)
+
+-- the last of them
+abbrev pub lastNumber : ℕ
+lastNumber = 14
+
+pub numbered-within : (k : ℕ) → Numbered k → (2 ≤ k) × (k ≤ lastNumber)
+unfolding allPass
+numbered-within k h =
+    let t : T (leb 2 k && leb k lastNumber) = member-passes (λ (n : ℕ). leb 2 n && leb n lastNumber) k sheetNumbers h tt in
+    (leb→le 2 k (left (leb 2 k) (leb k lastNumber) t), leb→le k lastNumber (right (leb 2 k) (leb k lastNumber) t))
 
 -- what is read at a place, where `long` bytes are left
 abbrev pub Within : {A : Type 0} → (A → Type 0) → ℕ → ℕ → ℕ → ℕ → Read A → Type 0
@@ -47,7 +56,7 @@ unfolding byte
 bounded-byte = record { within = within; decides = decides }
   where
     within : (at : ℕ) (bytes : List ℕ) → Within (λ b. Unit {0}) 1 0 at (length bytes) (byte at bytes)
-    within at [] = ((omega arith, omega arith), omega arith, omega arith)
+    within at [] = (unfold anyPasses in tt, omega arith, omega arith)
     within at (b ∷ bytes) = (tt, omega arith, omega arith, omega arith)
 
     decides : (at n : ℕ) (bytes : List ℕ) → 0 < n → byte at (take n bytes) ≡ cut (at + n) (byte at bytes)
@@ -156,7 +165,7 @@ bounded-operand k good h = bounded-judged bounded-byte k good h
 
 pub bounded-command : (code : ℕ) → Bounded (commandByte code) (λ b. T (eqb b code)) 1 0
 unfolding commandByte
-bounded-command code = bounded-operand 3 (λ b. eqb b code) (omega arith)
+bounded-command code = bounded-operand 3 (λ b. eqb b code) (unfold anyPasses in tt)
 
 -- a command with its operand
 pub bounded-with : {A : Type 0} {r : Reader A} {Good : A → Type 0} {most last : ℕ} (code : ℕ) → Bounded r Good most last

@@ -12,7 +12,7 @@ use borrow.Author.Tests.{eq-eqb, ne-eqb}
 use Rattle.specification.specs.Lists.{anyPasses}
 use Rattle.specification.specs.Commands.{bytesOf, flagCommands}
 use Rattle.specification.specs.Reading.{Read, got, stop, Reader, done, goOn, _>>=_, judged, onNext, byte, commandByte, withOperand, flag}
-use Rattle.lists.specs.Tests.{picked, passes, or-right}
+use Rattle.lists.specs.Tests.{picked, passes, fails, or-right}
 
 -- ---- what a reading says, if there is no fault
 
@@ -182,14 +182,27 @@ module _ (code k : ℕ) (allowed : Bool) where
       (λ c after rest ((t, a), e). ((λ q. a), e ∙ ap (λ (x : ℕ). x ∷ rest) (eqb→eq c code t))))
       ((λ q. absurd (false≢true q)), refl)
 
+  pub flag-there : (at : ℕ) (rest : List ℕ) → T allowed → flag code k allowed at (code ∷ rest) ≡ got true (at + 1) rest
+  unfolding flag done
+  flag-there at rest t =
+      next-goes code _ _ at rest
+      ∙ then-goes (judged k (λ c. allowed) (commandByte code)) (λ c. done true) (allowed-exact .complete at code rest (rw (eq-eqb code code refl) tt, t))
+
+  pub flag-none : (at : ℕ) (rest : List ℕ) → Other code rest → flag code k allowed at rest ≡ got false at rest
+  unfolding flag done
+  flag-none at rest o = other-goes code _ (done false) at rest o
+
   pub flag-goes : (asked : Bool) (at : ℕ) (rest : List ℕ) → (asked ≡ true → T allowed) → Other code rest
       → flag code k allowed at (bytesOf (flagCommands code asked) ++ rest) ≡ got asked (at + length (bytesOf (flagCommands code asked))) rest
-  unfolding flag done bytesOf flatMap
-  flag-goes true at rest h o =
+  unfolding bytesOf flatMap
+  flag-goes true at rest h o = flag-there at rest (h refl)
+  flag-goes false at rest h o = flag-none at rest o ∙ ap (λ (x : ℕ). got false x rest) (let q : at ≡ at + 0 = omega arith in q)
+
+  pub flag-stops : (at : ℕ) (rest : List ℕ) → (T allowed → ⊥) → flag code k allowed at (code ∷ rest) ≡ stop k at
+  unfolding flag judged goOn
+  flag-stops at rest h =
       next-goes code _ _ at rest
-      ∙ then-goes (judged k (λ c. allowed) (commandByte code)) (λ c. done true)
-      (allowed-exact .complete at code rest (rw (eq-eqb code code refl) tt, h refl))
-  flag-goes false at rest h o = other-goes code _ (done false) at rest o ∙ ap (λ (x : ℕ). got false x rest) (let q : at ≡ at + 0 = omega arith in q)
+      ∙ then-stops (judged k (λ c. allowed) (commandByte code)) (λ c. done true) (rw (command-goes code at rest, fails allowed h) refl)
 
 pub flag-begins : (code : ℕ) (asked : Bool) (codes rest : List ℕ) → Begins codes rest
     → Begins (code ∷ codes) (bytesOf (flagCommands code asked) ++ rest)

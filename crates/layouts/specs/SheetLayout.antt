@@ -4,7 +4,7 @@ use mathlib.Core.Path.{_≡_, refl, _∙_, ap}
 use mathlib.Core.List.{List, [], _∷_, _++_, flatMap}
 use Prim.Native.Nat.{ℕ}
 use Rattle.specification.specs.Polynomials.{degree, lower}
-use Rattle.specification.specs.Commands.{bytesOf}
+use Rattle.specification.specs.Commands.{command, bytesOf, flagCommands}
 use Rattle.specification.specs.Coefficients.{coefficientCommands}
 use Rattle.specification.specs.Sheets.{Sheet, headCommands, lastCommands, sheetCommands, sheetBytes}
 use Rattle.layouts.specs.CommandBytes.{bytesOf-append}
@@ -20,9 +20,9 @@ pub headBytes-is : (s : Sheet) → headBytes s ≡ 0x01 ∷ s .prime ∷ 0x02 �
 unfolding headCommands bytesOf flatMap
 headBytes-is s = refl
 
-pub lastBytes-is : (s : Sheet) → lastBytes s ≡ 0x0F ∷ []
+pub lastBytes-is : (s : Sheet) → lastBytes s ≡ bytesOf (flagCommands 0x04 (s .run)) ++ (0x0F ∷ [])
 unfolding lastCommands bytesOf flatMap
-lastBytes-is s = refl
+lastBytes-is s = bytesOf-append (flagCommands 0x04 (s .run)) (command 0x0F [] ∷ [])
 
 pub sheetBytes-is : (s : Sheet) → sheetBytes s ≡ headBytes s ++ (coefficientBytes (s .prime) 0 (lower (s .poly)) ++ lastBytes s)
 unfolding sheetBytes sheetCommands

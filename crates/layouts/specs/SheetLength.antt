@@ -1,6 +1,6 @@
 -- How long sheets are.
--- Proves that a sheet has at most 101 bytes, that a fault stands at place 101 at the latest and has a number 2 to 8, and that the first 102 bytes
--- decide. Assumes nothing.
+-- Proves that a sheet has at most 102 bytes, that a fault stands at place 102 at the latest and has a number of `sheetNumbers`, and that the first 103
+-- bytes decide. Assumes nothing.
 use mathlib.Core.Path.{_≡_, refl, _∙_, ap}
 use mathlib.Core.List.{List, [], _∷_}
 use Prim.Native.Nat.{ℕ, zero, suc, _≤_, _<_, _+_, _-_, _*_}
@@ -9,13 +9,15 @@ use lib.ListN.{length, take, set, length-set}
 use lib.Seq.{take-nil}
 use lib.Dec.{T}
 use Rattle.specification.specs.Limits.{taken, degreeLimit}
+use Rattle.specification.specs.Lists.{anyPasses}
 use Rattle.specification.specs.Polynomials.{Poly, degree, monomial}
 use Rattle.specification.specs.Reading.{Read, got, stop}
 use Rattle.specification.specs.Coefficients.{coefficientCode, indexTaken, indexOperand, valueTaken, valueOperand, coefficients}
-use Rattle.specification.specs.Sheets.{Sheet, sheetOf, degreeTaken, sheet, Reading, accepted, fault, whole, readSheet}
+use Rattle.specification.specs.RunLength.{hasRun}
+use Rattle.specification.specs.Sheets.{Sheet, degreeTaken, sheet, Reading, accepted, fault, whole, readSheet}
 use Rattle.specification.specs.SheetClaims.{sheetLimit}
+use Rattle.algebra.specs.ListShapes.{degree-monomial}
 use Rattle.layouts.specs.CoefficientBytes.{coefficientRoom}
-use Rattle.layouts.specs.GoodSheets.{degree-monomial}
 use Rattle.layouts.specs.Operands.{degree-within, index-within}
 use Rattle.layouts.specs.ReaderBounds.{
   Numbered,
@@ -30,6 +32,7 @@ use Rattle.layouts.specs.ReaderBounds.{
   bounded-operand,
   bounded-command,
   bounded-with,
+  bounded-flag,
 }
 
 -- anything may be read
@@ -40,10 +43,10 @@ Any a = Unit {0}
 
 -- an index and a value are one byte each
 value-bounded : (p : ℕ) → Bounded (valueOperand p) (λ v. T (valueTaken p v)) 1 0
-value-bounded p = bounded-operand 7 (valueTaken p) (omega arith)
+value-bounded p = bounded-operand 7 (valueTaken p) (unfold anyPasses in tt)
 
 index-bounded : (d least : ℕ) → Bounded (indexOperand d least) (λ i. T (indexTaken d least i)) 1 0
-index-bounded d least = bounded-operand 6 (indexTaken d least) (omega arith)
+index-bounded d least = bounded-operand 6 (indexTaken d least) (unfold anyPasses in tt)
 
 -- n coefficients at most are to come
 coefficients-bounded : (room p n least : ℕ) (f : Poly) → degree f ≤ n + least
@@ -70,12 +73,13 @@ coefficients-bounded (suc room) p (suc n) least f h =
 -- ---- the commands of a sheet, one by one
 
 sheet-bounded : Bounded sheet Any sheetLimit sheetLimit
-unfolding sheet
+unfolding sheet anyPasses
 sheet-bounded =
-    bounded-then (omega arith) (bounded-with 0x01 (bounded-operand 4 taken (omega arith))) (λ p t.
-    bounded-then (omega arith) (bounded-with 0x02 (bounded-operand 5 degreeTaken (omega arith))) (λ n t.
+    bounded-then (omega arith) (bounded-with 0x01 (bounded-operand 4 taken tt)) (λ p t.
+    bounded-then (omega arith) (bounded-with 0x02 (bounded-operand 5 degreeTaken tt)) (λ n t.
     bounded-then (omega arith) (coefficients-bounded (suc n) p degreeLimit 0 (monomial n) (omega (arith, degree-monomial n, degree-within n t))) (λ f g.
-    bounded-then (omega arith) (bounded-command 0x0F) (λ c t. bounded-done (sheetOf p f) tt))))
+    bounded-then (omega arith) (bounded-flag 0x04 14 (hasRun p f) tt) (λ run t.
+    bounded-then (omega arith) (bounded-command 0x0F) (λ c t. bounded-done (record { prime = p; poly = f; run = run }) tt)))))
 
 -- ---- sheets
 
@@ -91,7 +95,7 @@ module _ (bytes : List ℕ) where
     where
       go : (x : Read Sheet) → Within Any sheetLimit sheetLimit 0 (length bytes) x → Ends bytes (whole x)
       go (got s after []) (g, u, v, e) = omega arith
-      go (got s after (b ∷ rest)) (g, u, v, e) = ((omega arith, omega arith), omega arith, omega arith)
+      go (got s after (b ∷ rest)) (g, u, v, e) = (unfold anyPasses in tt, omega arith, omega arith)
       go (stop k place) (p, u, v) = (p, omega arith, omega arith)
 
   pub accepted-length : (s : Sheet) → readSheet bytes ≡ accepted s → length bytes ≤ sheetLimit
@@ -110,7 +114,7 @@ module _ (bytes : List ℕ) where
       go (accepted s) e = absurd (omega (arith, accepted-length s e))
       go (fault k at) e = (k, at, e)
 
-  -- "the first place at fault ends the reading", and it is among the first 102 bytes
+  -- "the first place at fault ends the reading", and it is among the first 103 bytes
   pub first-bytes-decide : readSheet (take (suc sheetLimit) bytes) ≡ readSheet bytes
   unfolding readSheet whole
   first-bytes-decide =

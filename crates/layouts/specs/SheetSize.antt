@@ -1,18 +1,20 @@
 -- How large a good sheet is.
--- Proves at most 101 bytes, by the reader's bound, and each below 256, command by command; the head is that of answers too. Assumes nothing.
+-- Proves at most 102 bytes, by the reader's bound, and each below 256, command by command; the head is that of answers too. Assumes nothing.
 use mathlib.Core.Path.{_≡_}
 use mathlib.Core.Bool.{true}
+use mathlib.Core.List.{[]}
 use Prim.Native.Nat.{_≤_}
 use native.Mathlib.Omega.{arith}
 use lib.ListN.{length}
 use Rattle.specification.specs.Limits.{taken}
 use Rattle.specification.specs.Polynomials.{Poly, degree, lower}
+use Rattle.specification.specs.Commands.{command}
 use Rattle.specification.specs.Sheets.{Sheet, headCommands, lastCommands, sheetCommands, sheetBytes}
 use Rattle.specification.specs.SheetClaims.{GoodSheet, sheetLimit}
 use Rattle.lists.specs.Tests.{passes}
 use Rattle.algebra.specs.TakenPrimes.{fits-byte, square-fits-byte}
 use Rattle.lists.specs.Members.{All, all-cons, all-append}
-use Rattle.layouts.specs.CommandBytes.{Byte, byte-none, ByteCommand, bytes-of}
+use Rattle.layouts.specs.CommandBytes.{Byte, byte-none, ByteCommand, bytes-of, all-asked}
 use Rattle.layouts.specs.CoefficientBytes.{byte-coefficients, length-lower, lower-reduced}
 use Rattle.layouts.specs.SheetsRead.{written-is-read}
 use Rattle.layouts.specs.SheetLength.{accepted-length}
@@ -24,7 +26,9 @@ bytes-head s k l =
 
 bytes-last : (s : Sheet) → All ByteCommand (lastCommands s)
 unfolding lastCommands
-bytes-last s = all-cons (all-cons (omega arith) byte-none) (λ c i. elim i [ ])
+bytes-last s =
+    all-append (all-asked ByteCommand (s .run) (command 0x04 []) (all-cons (omega arith) byte-none))
+    (all-cons (all-cons (omega arith) byte-none) (λ c i. elim i [ ]))
 
 module _ (s : Sheet) (g : GoodSheet s) where
   pub sheet-fits : length (sheetBytes s) ≤ sheetLimit

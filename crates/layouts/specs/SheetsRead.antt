@@ -3,33 +3,46 @@
 -- Assumes nothing.
 use mathlib.Core.Path.{_≡_, refl, sym, _∙_, ap, subst, _≡⟨_⟩_, _∎}
 use mathlib.Core.Logic.{_↔_}
+use mathlib.Core.Bool.{Bool}
 use mathlib.Core.List.{List, [], _∷_, _++_, append-assoc, append-nil}
 use Prim.Native.Nat.{ℕ, suc, _+_}
 use native.Mathlib.Omega.{arith}
 use lib.ListN.{length, length-append}
-use Rattle.specification.specs.Polynomials.{degree, lower, monomial}
-use Rattle.specification.specs.Reading.{Read, got, stop, Reader, done, _>>=_, _>>_, commandByte, withOperand}
-use Rattle.specification.specs.Coefficients.{coefficients}
-use Rattle.specification.specs.Sheets.{Sheet, sheetOf, primeOperand, degreeOperand, sheet, accepted, whole, readSheet, sheetBytes}
+use Rattle.specification.specs.Lists.{anyPasses}
+use Rattle.specification.specs.Polynomials.{Poly, degree, lower, monomial}
+use Rattle.specification.specs.Commands.{bytesOf, flagCommands}
+use Rattle.specification.specs.Reading.{Read, got, stop, Reader, done, _>>=_, _>>_, commandByte, withOperand, flag}
+use Rattle.specification.specs.Coefficients.{coefficientCode, coefficients}
+use Rattle.specification.specs.RunLength.{hasRun}
+use Rattle.specification.specs.Sheets.{Sheet, primeOperand, degreeOperand, sheet, accepted, whole, readSheet, sheetBytes}
 use Rattle.specification.specs.SheetClaims.{GoodSheet}
 use Rattle.layouts.specs.ReaderLaws.{Holds, holds-then, then-goes, command-sound, command-goes}
+use Rattle.layouts.specs.ReaderLaws.{Other, begins-other, flag-sound, flag-goes, flag-begins}
 use Rattle.layouts.specs.Operands.{degree-passes, degree-within, prime-exact, degree-exact}
 use Rattle.layouts.specs.CoefficientBytes.{coefficientBytes}
 use Rattle.layouts.specs.SheetLayout.{headBytes-is, lastBytes-is, sheetBytes-is}
+use Rattle.layouts.specs.GoodSheets.{asked-good}
 use Rattle.layouts.specs.CoefficientsRead.{coefficients-sound, coefficients-complete}
+
+-- what is asked for, with its bytes
+abbrev askedBytes : Bool → List ℕ
+askedBytes run = bytesOf (flagCommands 0x04 run)
 
 -- the bytes of a sheet and then others, stage by stage
 bytes-before : (s : Sheet) (rest : List ℕ)
-    → sheetBytes s ++ rest ≡ 0x01 ∷ s .prime ∷ 0x02 ∷ degree (s .poly) ∷ (coefficientBytes (s .prime) 0 (lower (s .poly)) ++ (0x0F ∷ rest))
+    → sheetBytes s ++ rest
+    ≡ 0x01 ∷ s .prime ∷ 0x02 ∷ degree (s .poly) ∷ (coefficientBytes (s .prime) 0 (lower (s .poly)) ++ (askedBytes (s .run) ++ (0x0F ∷ rest)))
 bytes-before s rest = simp (sheetBytes-is s, headBytes-is s, lastBytes-is s, append-assoc)
 
-length-sheet : (s : Sheet) → suc (4 + length (coefficientBytes (s .prime) 0 (lower (s .poly)))) ≡ length (sheetBytes s)
+length-sheet : (s : Sheet)
+    → suc (4 + length (coefficientBytes (s .prime) 0 (lower (s .poly))) + length (askedBytes (s .run))) ≡ length (sheetBytes s)
 length-sheet s =
     omega (
       arith,
       ap length (bytes-before s []),
       ap length (append-nil (sheetBytes s)),
-      length-append (coefficientBytes (s .prime) 0 (lower (s .poly))) (0x0F ∷ []),
+      length-append (coefficientBytes (s .prime) 0 (lower (s .poly))) (askedBytes (s .run) ++ (0x0F ∷ [])),
+      length-append (askedBytes (s .run)) (0x0F ∷ []),
     )
 
 -- ---- read
@@ -45,17 +58,24 @@ sheet-sound bytes =
     holds-then (Found bytes) (withOperand 0x02 degreeOperand) _ at₂ rest₂ (degree-exact .sound at₂ rest₂) (λ n at₄ rest₄ (u, e₄).
     let (low, high) = degree-within n u in
     holds-then (Found bytes) (coefficients (suc n) p 0 (monomial n)) _ at₄ rest₄ (coefficients-sound p n t low high at₄ rest₄) (λ f at₅ rest₅ (good, d, e₅).
-    holds-then (Found bytes) (commandByte 0x0F) (λ c. done (sheetOf p f)) at₅ rest₅ (command-sound 0x0F at₅ rest₅) (λ c at₆ rest₆ e₆.
-    unfold done in (good, cc (bytes-before (sheetOf p f) rest₆))))))
+    holds-then (Found bytes) (flag 0x04 14 (hasRun p f)) _ at₅ rest₅ (flag-sound 0x04 14 (hasRun p f) at₅ rest₅) (λ run at₆ rest₆ (again, e₆).
+    let s : Sheet = record { prime = p; poly = f; run = run } in
+    holds-then (Found bytes) (commandByte 0x0F) (λ c. done s) at₆ rest₆ (command-sound 0x0F at₆ rest₆) (λ c at₇ rest₇ e₇.
+    unfold done in (asked-good good again, cc (bytes-before s rest₇)))))))
 
 -- ---- written
 
--- what is read after the degree
+-- what is read after the coefficients, and after the degree
+abbrev afterCoefficients : ℕ → Poly → Reader Sheet
+afterCoefficients p f = do
+  run ← flag 0x04 14 (hasRun p f)
+  commandByte 0x0F
+  done (record { prime = p; poly = f; run = run })
+
 abbrev afterDegree : ℕ → ℕ → Reader Sheet
 afterDegree p n = do
   f ← coefficients (suc n) p 0 (monomial n)
-  commandByte 0x0F
-  done (sheetOf p f)
+  afterCoefficients p f
 
 head-complete : (s : Sheet) → GoodSheet s → (bytes : List ℕ)
     → let n : ℕ = degree (s .poly) in sheet 0 (0x01 ∷ s .prime ∷ 0x02 ∷ n ∷ bytes) ≡ afterDegree (s .prime) n 4 bytes
@@ -65,18 +85,33 @@ head-complete s g bytes =
     then-goes (withOperand 0x01 primeOperand) _ (prime-exact .complete 0 (s .prime) (0x02 ∷ n ∷ bytes) (g .prime))
     ∙ then-goes (withOperand 0x02 degreeOperand) _ (degree-exact .complete 2 n bytes (degree-passes n (g .monic .positive) (g .fits)))
 
-sheet-complete : (s : Sheet) → GoodSheet s → (rest : List ℕ) → sheet 0 (sheetBytes s ++ rest) ≡ got s (length (sheetBytes s)) rest
+last-complete : (s : Sheet) → GoodSheet s → (at : ℕ) (rest : List ℕ)
+    → afterCoefficients (s .prime) (s .poly) at (askedBytes (s .run) ++ (0x0F ∷ rest)) ≡ got s (suc (at + length (askedBytes (s .run)))) rest
 unfolding done
+last-complete s g at rest =
+    let allowed : Bool = hasRun (s .prime) (s .poly) in
+    then-goes (flag 0x04 14 allowed) _ (flag-goes 0x04 14 allowed (s .run) at (0x0F ∷ rest) (g .again) (λ e. omega arith))
+    ∙ then-goes (commandByte 0x0F) _ (command-goes 0x0F (at + length (askedBytes (s .run))) rest)
+
+-- what follows the coefficients begins with none
+last-other : (s : Sheet) (rest : List ℕ) → Other (coefficientCode (s .prime)) (askedBytes (s .run) ++ (0x0F ∷ rest))
+unfolding anyPasses
+last-other s rest =
+    begins-other (coefficientCode (s .prime)) (0x04 ∷ 0x0F ∷ []) (askedBytes (s .run) ++ (0x0F ∷ rest))
+    (flag-begins 0x04 (s .run) (0x0F ∷ []) (0x0F ∷ rest) tt) refl
+
+sheet-complete : (s : Sheet) → GoodSheet s → (rest : List ℕ) → sheet 0 (sheetBytes s ++ rest) ≡ got s (length (sheetBytes s)) rest
 sheet-complete s g rest =
     let p : ℕ = s .prime in
     let n : ℕ = degree (s .poly) in
     let coefs : List ℕ = coefficientBytes p 0 (lower (s .poly)) in
-    let last : List ℕ = 0x0F ∷ rest in
+    let last : List ℕ = askedBytes (s .run) ++ (0x0F ∷ rest) in
     sheet 0 (sheetBytes s ++ rest) ≡⟨ ap (sheet 0) (bytes-before s rest) ⟩
     sheet 0 (0x01 ∷ p ∷ 0x02 ∷ n ∷ (coefs ++ last)) ≡⟨ head-complete s g (coefs ++ last) ⟩
-    afterDegree p n 4 (coefs ++ last) ≡⟨ then-goes (coefficients (suc n) p 0 (monomial n)) _ (coefficients-complete s g 4 last (λ e. omega arith)) ⟩
-    _>>_ (commandByte 0x0F) (done s) (4 + length coefs) last ≡⟨ then-goes (commandByte 0x0F) _ (command-goes 0x0F (4 + length coefs) rest) ⟩
-    got s (suc (4 + length coefs)) rest ≡⟨ ap (λ (k : ℕ). got s k rest) (length-sheet s) ⟩
+    afterDegree p n 4 (coefs ++ last)
+    ≡⟨ then-goes (coefficients (suc n) p 0 (monomial n)) _ (coefficients-complete s g 4 last (last-other s rest)) ⟩
+    afterCoefficients p (s .poly) (4 + length coefs) last ≡⟨ last-complete s g (4 + length coefs) rest ⟩
+    got s (suc (4 + length coefs + length (askedBytes (s .run)))) rest ≡⟨ ap (λ (k : ℕ). got s k rest) (length-sheet s) ⟩
     got s (length (sheetBytes s)) rest ∎
 
 -- ---- what is accepted

@@ -1,8 +1,8 @@
--- The specification's tests of a list: `all`, every member passes, and `any`, some member does.
--- Proves what they say of members and of places, and what a loop over the places knows of `all`. Assumes nothing.
+-- The specification's tests of a list: `allPass`, every member passes, and `anyPasses`, some member does.
+-- Proves what they say of members and of places, and what a loop over the places knows of `allPass`. Assumes nothing.
 use mathlib.Core.Path.{_≡_, refl, sym, subst}
 use mathlib.Core.Bool.{Bool, true, false}
-use mathlib.Core.List.{List, [], _∷_}
+use mathlib.Core.List.{List, [], _∷_, _++_}
 use mathlib.Core.List.{List·Memᴰ·head as here, List·Memᴰ·tail as there}
 use mathlib.Core.Logic.{⊎-elim}
 use Prim.Native.Nat.{ℕ, _<_, _≤_}
@@ -37,6 +37,12 @@ module _ {A : Type 0} (test : A → Bool) where
   unfolding anyPasses
   any-passes (here {x} {xs} e) t = or-left (test x) (anyPasses test xs) (subst (λ b. T (test b)) e t)
   any-passes (there {x} {xs} i) t = or-right (test x) (anyPasses test xs) (any-passes i t)
+
+  -- those that fail are passed over
+  pub any-past : (l m : List A) → All (λ a. test a ≡ false) l → anyPasses test (l ++ m) ≡ anyPasses test m
+  unfolding anyPasses
+  any-past [] m h = refl
+  any-past (a ∷ l) m h = rw (h a (here refl)) (any-past l m (all-tail h))
 
   -- the same by places; past the end d is read
   module _ (d : A) (l : List A) where

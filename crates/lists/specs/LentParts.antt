@@ -1,5 +1,5 @@
 -- A part of an array lent to a call, `f(&mut a[k..])`: `midOf k s a` is the s entries of a from k on, and `putMid k s a r` is a with r in their place.
--- Proves which entries a part has, and that the whole is a with these entries replaced by those of r. Assumes nothing.
+-- Proves how long a part is, which entries it has, and that the whole is a with these entries replaced by those of r. Assumes nothing.
 use mathlib.Core.Path.{_≡_, _∙_, subst}
 use mathlib.Core.List.{List, _++_}
 use Prim.Native.Nat.{ℕ, _+_, _-_, _<_, _≤_}
@@ -12,7 +12,7 @@ use Rattle.lists.specs.Places.{from-end}
 
 -- d is what is read past an array's end
 module _ {A : Type 0} (d : A) (k s : ℕ) (a : List A) (fits : k + s ≤ length a) where
-  part-length : length (midOf k s a) ≡ s
+  pub part-length : length (midOf k s a) ≡ s
   part-length = length-take-le s (drop k a) (omega (arith, length-drop k a))
 
   pub part-entry : (i : ℕ) → i < s → getD (midOf k s a) i d ≡ getD a (k + i) d

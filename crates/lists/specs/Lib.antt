@@ -5,11 +5,13 @@ pub mod Cases
 pub mod AllAny
 pub mod Firsts
 pub mod NumbersFrom
+pub mod Least
 pub mod SameLists
 pub mod Sums
 pub mod FlatMaps
 pub mod Ends
 pub mod Distinct
+pub mod Pigeonhole
 pub mod InOrder
 pub mod Insertion
 pub mod MappedInsertion

@@ -16,7 +16,8 @@ use Rattle.algebra.specs.Monomials.{x^}
 use Rattle.algebra.specs.Degree.{below-up, below-add, below-neg, monic-pow-x}
 use Rattle.algebra.specs.CoefficientLists.{poly, 𝓩[x]/}
 use Rattle.algebra.specs.Congruence.{congruent-equal, congruent-add}
-use Rattle.arrays.specs.Represents.{Represents, poly-unit}
+use Rattle.algebra.specs.ListDivision.{poly-unit}
+use Rattle.arrays.specs.Represents.{Represents}
 use Rattle.frobenius.specs.LinearMaps.{Remainders}
 use Rattle.frobenius.specs.FrobeniusPowers.{_^ᴿ_, differenceImages}
 use Rattle.modular.specs.Multiples.{minus-one-multiple}

@@ -17,7 +17,8 @@ use Rattle.algebra.specs.Degree.{Below, Monic, below-add, below-neg, below-up, 
 use Rattle.algebra.specs.Fields.{Prime, prime-pos, residue-field, residue-nontrivial}
 use Rattle.algebra.specs.Bezout.{MonicBezout, bezout-monic}
 use Rattle.algebra.specs.CoefficientLists.{ℤ[x]/, poly, Reduced, 𝓩[x]/}
-use Rattle.arrays.specs.Represents.{Represents, poly-unit}
+use Rattle.algebra.specs.ListDivision.{poly-unit}
+use Rattle.arrays.specs.Represents.{Represents}
 use Rattle.factorisation.specs.MonicDivisors.{monic-antisym, monic-degree, monic-nonzero}
 use Rattle.frobenius.specs.SplittingElements.{CoprimeFactors, SplittingElement, splitting-constant, splitting-factors}
 use Rattle.modular.specs.Multiples.{multiple-taken-off}

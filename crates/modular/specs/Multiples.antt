@@ -8,9 +8,9 @@ use lib.ListN.{replicate}
 use Rattle.algebra.specs.Ring.{neg-mul, one-mul, zero-add}
 use Rattle.algebra.specs.Residues.{residue}
 use Rattle.algebra.specs.PolynomialRing.{_+ᴿ_, _·_, -ᴿ_, constant}
-use Rattle.algebra.specs.CoefficientLists.{ℤ[x]/, poly, Reduced, 𝓩[x]/}
+use Rattle.algebra.specs.CoefficientLists.{ℤ[x]/, poly, Reduced, constant-residue-one, 𝓩[x]/}
 use Rattle.algebra.specs.Monomials.{x^, shift-zero}
-use Rattle.arrays.specs.Represents.{Represents, zeros, constant-residue-one, constant-residue-neg}
+use Rattle.arrays.specs.Represents.{Represents, zeros, constant-residue-neg}
 
 module _ (n : ℕ) where
   pub one-multiple : (b : ℤ[x]/ n) → constant (residue n 1) · b ≡ b

@@ -11,7 +11,7 @@ use Rattle.algebra.specs.Degree.{below-up}
 use Rattle.algebra.specs.CoefficientLists.{ℤ[x]/, poly, 𝓩[x]/}
 use Rattle.algebra.specs.Congruence.{congruent-equal, congruent-mul}
 use Rattle.arrays.specs.Represents.{unit, below-unit}
-use Rattle.quotients.specs.Remainder.{Remainder, remainder-congruent}
+use Rattle.quotients.specs.Remainder.{Remainder, remainder-as}
 
 module _ (n : ℕ) (q : List ℕ) {d : ℕ} (a : ℤ[x]/ n) where
   pub power-none : 1 < n → 0 < d → Remainder n q d (1 ∷ replicate 32 0) (pow (𝓩[x]/ n) a 0)
@@ -25,5 +25,5 @@ module _ (n : ℕ) (q : List ℕ) {d : ℕ} (a : ℤ[x]/ n) where
       → Remainder n q d v (pow (𝓩[x]/ n) a (i + 1))
   power-more i hr hv =
       rw (add-one, pow-suc (𝓩[x]/ n) a i)
-      (remainder-congruent n hv
+      (remainder-as n hv
       (congruent-mul (𝓩[x]/ n) (congruent-equal (𝓩[x]/ n) refl) (hr .congruent)))

@@ -1,10 +1,11 @@
 -- Remainders modulo a monic polynomial: `Remainder n q d r p`, the array r holds the remainder of p by q, of degree d.
--- Proves that a congruent polynomial has the same remainder, and that division leaves it. Assumes nothing.
+-- Proves that a congruent polynomial has the same remainder, that a remainder is one array only, and that division leaves it. Assumes nothing.
+use mathlib.Core.Path.{_≡_}
 use mathlib.Core.List.{List}
 use Prim.Native.Nat.{ℕ}
-use Rattle.algebra.specs.Degree.{Below}
-use Rattle.algebra.specs.CoefficientLists.{ℤ[x]/, poly, Reduced, 𝓩[x]/}
-use Rattle.algebra.specs.Congruence.{Congruent, congruent-sym, congruent-trans, congruent-remainder}
+use Rattle.algebra.specs.Degree.{Below, Monic}
+use Rattle.algebra.specs.CoefficientLists.{ℤ[x]/, poly, Reduced, 𝓩[x]/, same-list}
+use Rattle.algebra.specs.Congruence.{Congruent, congruent-sym, congruent-trans, congruent-remainder, congruent-unique}
 use Rattle.division.specs.DivisionLoop.{DividedBy}
 
 -- r is congruent to p modulo q and has d terms
@@ -15,13 +16,18 @@ pub record Remainder (n : ℕ) (q : List ℕ) (d : ℕ) (r : List ℕ) (p : ℤ[
 
 module _ (n : ℕ) {q : List ℕ} {d : ℕ} where
   -- a congruent polynomial has the same remainder
-  pub remainder-congruent : {r : List ℕ} {p p′ : ℤ[x]/ n} → Remainder n q d r p
+  pub remainder-as : {r : List ℕ} {p p′ : ℤ[x]/ n} → Remainder n q d r p
       → Congruent (𝓩[x]/ n) (poly n q) p p′ → Remainder n q d r p′
-  remainder-congruent h c = record {
+  remainder-as h c = record {
     reduced = h .reduced;
     small = h .small;
     congruent = congruent-trans (𝓩[x]/ n) (h .congruent) c;
   }
+
+  pub one-remainder : Monic d (poly n q) → {r s : List ℕ} {p : ℤ[x]/ n} → Remainder n q d r p → Remainder n q d s p → r ≡ s
+  one-remainder m hr hs =
+      same-list (hr .reduced) (hs .reduced)
+      (congruent-unique m (hr .small) (hs .small) (congruent-trans (𝓩[x]/ n) (hr .congruent) (congruent-sym (𝓩[x]/ n) (hs .congruent))))
 
   pub remainder-divided : {a t r : List ℕ} → DividedBy n a q d t r → Remainder n q d r (poly n a)
   remainder-divided {t = t} {r} h = record {

@@ -11,19 +11,18 @@ use native.Mathlib.Omega.{arith}
 use lib.ListN.{length, getD, set}
 use Rattle.lists.specs.Entries.{Replaced, replaced-none, replaced-down}
 use Rattle.algebra.specs.Numbers.{lt-or-le}
-use Rattle.algebra.specs.Ring.{zero-add}
 use Rattle.algebra.specs.Identities.{_⊖_, _⊗_, ⊝_, _≈_, solve}
-use Rattle.algebra.specs.Residues.{residue, Residues, residue-zero}
-use Rattle.algebra.specs.PolynomialRing.{_+ᴿ_, _·_, -ᴿ_, x, constant, constant-zero}
+use Rattle.algebra.specs.Residues.{residue}
+use Rattle.algebra.specs.PolynomialRing.{_+ᴿ_, _·_, -ᴿ_, x, constant}
 use Rattle.algebra.specs.Degree.{Below, Monic, below-x-mul}
 use Rattle.algebra.specs.Division.{below-top}
-use Rattle.algebra.specs.CoefficientLists.{ℤ[x]/, poly, Reduced, coef-poly, poly-cons, 𝓩[x]/}
+use Rattle.algebra.specs.CoefficientLists.{ℤ[x]/, poly, Reduced, coef-poly, poly-zero-cons, 𝓩[x]/}
 use Rattle.algebra.specs.Congruence.{Congruent, congruent-equal, congruent-trans, congruent-mul}
 use Rattle.algebra.specs.Monomials.{x^, shift-zero, shift-suc}
 use Rattle.arrays.specs.Represents.{Represents, ZeroFrom}
 use Rattle.arrays.specs.SameEntries.{same-poly}
 use Rattle.modular.specs.Multiples.{multiple-taken-off}
-use Rattle.quotients.specs.Remainder.{Remainder, remainder-congruent}
+use Rattle.quotients.specs.Remainder.{Remainder, remainder-as}
 
 -- r is 0 and then a
 pub record MovedUp (a r : List ℕ) : Type 0 where
@@ -64,9 +63,7 @@ moving-done {a} {d} {i} {r} w l fits none = record {
 
 module _ {n : ℕ} {a t : List ℕ} (ha : Reduced n 33 a) (T : MovedUp a t) where
   is : poly n t ≡ x · poly n a
-  is =
-      same-poly n t (0 ∷ a) (T .each) ∙ poly-cons n 0 a ∙ ap (λ c. c +ᴿ x · poly n a) (ap constant (residue-zero n) ∙ constant-zero (Residues n))
-      ∙ zero-add (𝓩[x]/ n) (x · poly n a)
+  is = same-poly n t (0 ∷ a) (T .each) ∙ poly-zero-cons n a
 
   pub moved-reduced : Reduced n 33 t
   moved-reduced = record { len = T .len ∙ ha .len; low = λ j. rw (T .each j) (low j) }
@@ -105,7 +102,7 @@ module _ {n : ℕ} {q : List ℕ} {d : ℕ} (a : List ℕ) where
       → Remainder n q d v (x^ (i + 1) · poly n a)
   shifts-more i {r} hr hv =
       rw (add-one, shift-suc i (poly n a))
-      (remainder-congruent n hv (congruent-mul (𝓩[x]/ n) (congruent-equal (𝓩[x]/ n) refl) (hr .congruent)))
+      (remainder-as n hv (congruent-mul (𝓩[x]/ n) (congruent-equal (𝓩[x]/ n) refl) (hr .congruent)))
 
   pub shifts-done : {i k : ℕ} {r : List ℕ} → i ≤ k → k ≤ i → Remainder n q d r (x^ i · poly n a) → Remainder n q d r (x^ k · poly n a)
   shifts-done {r = r} l g h = subst (λ m. Remainder n q d r (x^ m · poly n a)) (le-antisymm l g) h

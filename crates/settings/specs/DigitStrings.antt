@@ -1,23 +1,18 @@
--- Strings of k digits modulo p are the coefficient lists of the specification's `polynomials p k`, and these are p to the k.
--- Proves that what is numbered by such strings is counted so. Assumes nothing.
-use mathlib.Core.Path.{_≡_, refl, sym, _∙_, ap, subst}
+-- Strings of k digits modulo p are the coefficient lists of the specification's `polynomials p k`.
+-- Proves that what is numbered by such strings is p to the k things. Assumes nothing.
+use mathlib.Core.Path.{_≡_, refl, sym, _∙_, subst}
 use mathlib.Core.List.{List, [], _∷_, map, Memᴰ·of-map, Memᴰ·map, Memᴰ·cast}
 use mathlib.Core.List.{List·Memᴰ·head as here, List·Memᴰ·tail as there}
-use Prim.Native.Nat.{ℕ, zero, suc, _<_, _*_, _^_}
-use native.Mathlib.Nat.{pow-zero, pow-suc}
-use lib.ListN.{length, length-map}
-use Rattle.specification.specs.Lists.{upFrom, below}
+use Prim.Native.Nat.{ℕ, _<_, _^_}
+use lib.ListN.{length-map}
 use Rattle.specification.specs.Polynomials.{Poly}
 use Rattle.specification.specs.Powers.{polynomials}
 use Rattle.specification.specs.Items1to3.{Smaller}
 use Rattle.specification.specs.Settings.{NoneTwice, Counted}
 use Rattle.algebra.specs.CoefficientLists.{Reduced}
-use Rattle.lists.specs.NumbersFrom.{upFrom-length}
 use Rattle.lists.specs.Members.{_∈_, all-everywhere, all-entries}
-use Rattle.lists.specs.Sums.{total-constant}
-use Rattle.lists.specs.FlatMaps.{length-flatMap}
 use Rattle.lists.specs.InOrder.{InOrder}
-use Rattle.items.specs.Enumeration.{polynomials-member, polynomials-has, polynomials-in-order}
+use Rattle.items.specs.Enumeration.{polynomials-member, polynomials-has, length-polynomials, polynomials-in-order}
 use Rattle.items.specs.ItemOrder.{smaller-irreflexive}
 use Rattle.settings.specs.Numberings.{Digits, Numbered}
 
@@ -28,16 +23,6 @@ digits-reduced {p} pos {ds} h = record { len = h .count; low = all-everywhere (�
 
 pub reduced-digits : {p k : ℕ} {ds : List ℕ} → Reduced p k ds → Digits p k ds
 reduced-digits {p} {ds = ds} r = record { count = r .len; low = all-entries (λ d. d < p) 0 ds (λ i l. r .low i) }
-
--- ---- how many there are
-
-length-polynomials : (p k : ℕ) → length (polynomials p k) ≡ p ^ k
-unfolding polynomials below
-length-polynomials p zero = sym (pow-zero p)
-length-polynomials p (suc k) =
-    length-flatMap (λ (f : Poly). map (λ (a : ℕ). a ∷ f) (below p)) (polynomials p k)
-    ∙ total-constant _ p (polynomials p k) (λ f. length-map (upFrom 0 p) (λ a. a ∷ f) ∙ upFrom-length 0 p)
-    ∙ ap (λ (n : ℕ). n * p) (length-polynomials p k) ∙ sym (pow-suc p k)
 
 -- ---- none stands twice
 

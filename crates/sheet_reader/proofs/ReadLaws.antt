@@ -2,21 +2,23 @@
 -- Proves that with number 0 the sheet is accepted as the answer's struct has it, a good sheet whose array is monic of its degree modulo p²,
 -- and that any other number is the fault's, with its place and the zero polynomial of prime 2. Assumes nothing.
 use mathlib.Core.Path.{_≡_, refl, sym, _∙_, ap, subst}
+use mathlib.Core.Bool.{false}
 use mathlib.Core.List.{List, [], _++_}
 use Prim.Native.Nat.{ℕ, suc, _≤_, _<_}
 use native.Mathlib.Omega.{arith}
 use lib.ListN.{length, replicate}
 use lib.Seq.{take-take, take-at}
 use Rattle.specification.specs.Limits.{taken, coefficientCount, refusedPrime, _²}
-use Rattle.specification.specs.Polynomials.{degree}
+use Rattle.specification.specs.Polynomials.{Poly, degree}
 use Rattle.specification.specs.Records.{pad}
-use Rattle.specification.specs.Sheets.{Sheet, sheetOf, Reading, accepted, fault, readSheet}
+use Rattle.specification.specs.Sheets.{Sheet, Reading, accepted, fault, readSheet}
 use Rattle.specification.specs.SheetClaims.{GoodSheet}
 use Rattle.lists.specs.Tests.{passes}
 use Rattle.algebra.specs.Degree.{Monic}
 use Rattle.arrays.specs.Listed.{listed}
 use Rattle.arrays.specs.Held.{MonicModSquare}
 use Rattle.items.specs.MonicLists.{MonicList, from-claimed, monic-poly}
+use Rattle.layouts.specs.ReaderBounds.{numbered-within}
 use Rattle.layouts.specs.SheetsRead.{read-is-good}
 use Rattle.layouts.specs.SheetLength.{fault-number}
 use Rattle.polynomial.proofs.RecordLaws.{length-pad, getD-pad, poly-pad}
@@ -74,6 +76,7 @@ pub record Refused (bytes : List ℕ) (r : SheetRead) : Type 0 where
   pub prime : r .sheet .prime ≡ refusedPrime
   pub degree : r .sheet .degree ≡ 0
   pub coefs : r .sheet .coefs ≡ pad []
+  pub run : r .sheet .run ≡ false
 
 module _ (bytes : List ℕ) where
   answered : (reading : Reading) → readSheet bytes ≡ reading → (sheetRead reading) .number ≡ 0 → Read bytes (sheetRead reading)
@@ -88,12 +91,12 @@ module _ (bytes : List ℕ) where
       good = read-is-good bytes s e
 
       back : asSheet (asStruct s) ≡ s
-      back = ap (sheetOf (s .prime)) (good-in s good)
-  answered (fault k at) e z = absurd (omega (arith, fault-number bytes k at e))
+      back = ap (λ (f : Poly). record { prime = s .prime; poly = f; run = s .run }) (good-in s good)
+  answered (fault k at) e z = absurd (omega (arith, numbered-within k (fault-number bytes k at e)))
 
   refused : (reading : Reading) → readSheet bytes ≡ reading → ((sheetRead reading) .number ≡ 0 → ⊥) → Refused bytes (sheetRead reading)
   refused (accepted s) e h = absurd (h refl)
-  refused (fault k at) e h = record { reading = e; prime = refl; degree = refl; coefs = refl }
+  refused (fault k at) e h = record { reading = e; prime = refl; degree = refl; coefs = refl; run = refl }
 
   module _ (r : SheetRead) (e : r ≡ sheetRead (readSheet bytes)) where
     pub read-accepted : r .number ≡ 0 → Read bytes r

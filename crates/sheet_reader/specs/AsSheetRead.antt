@@ -23,7 +23,7 @@ use Rattle.sheet_reader.specs.declared.Step.the-variants.{Taken, Fault}
 
 -- a sheet's struct
 abbrev pub asStruct : spec.Sheet → Sheet
-asStruct s = record { prime = s .prime; degree = degree (s .poly); coefs = pad (s .poly) }
+asStruct s = record { prime = s .prime; degree = degree (s .poly); coefs = pad (s .poly); run = s .run }
 
 -- a number and a place with no sheet: "the zero polynomial of prime 2"
 abbrev pub noSheet : ℕ → ℕ → SheetRead
@@ -51,4 +51,6 @@ pad-in {d} {coefs} h =
         (lt-or-le k (suc d))
 
 pub struct-back : (s : Sheet) → Shaped (s .degree) (s .coefs) → asStruct (asSheet s) ≡ s
-struct-back s h = ap₂ (λ (m : ℕ) (c : List ℕ). record { prime = s .prime; degree = m; coefs = c }) (degree-listed (s .degree) (s .coefs) (inside h)) (pad-in h)
+struct-back s h =
+    ap₂ (λ (m : ℕ) (c : List ℕ). record { prime = s .prime; degree = m; coefs = c; run = s .run })
+    (degree-listed (s .degree) (s .coefs) (inside h)) (pad-in h)

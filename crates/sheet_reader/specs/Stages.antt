@@ -1,6 +1,7 @@
 -- The stages of a sheet's reading, and what is left to read after each.
 -- Proves how it begins, that the fault of a step is the answer's, what is read at the end, and that a step in a part is one of the sheet. Assumes nothing.
 use mathlib.Core.Path.{_≡_, refl, sym, _∙_, ap, ap₂, subst}
+use mathlib.Core.Bool.{Bool}
 use mathlib.Core.List.{List}
 use Prim.Native.Nat.{ℕ, _+_, _-_, _≤_, _<_, zero-le}
 use native.Mathlib.Nat.{zero-add}
@@ -8,7 +9,8 @@ use native.Mathlib.Omega.{arith}
 use lib.ListN.{length, take, drop, length-drop, drop-of-length-le}
 use lib.Seq.{take-all, drop-cons, drop-drop}
 use Rattle.specification.specs.Polynomials.{Poly}
-use Rattle.specification.specs.Reading.{Read, got, Reader, _>>=_, done, commandByte, withOperand}
+use Rattle.specification.specs.Reading.{Read, got, Reader, _>>=_, done, commandByte, withOperand, flag}
+use Rattle.specification.specs.RunLength.{hasRun}
 use Rattle.specification.specs.Sheets as spec
 use Rattle.sheet_reader.specs.declared.SheetRead.{SheetRead}
 use Rattle.sheet_reader.specs.declared.Step.{Step}
@@ -23,8 +25,11 @@ use Rattle.sheet_reader.specs.Underway.{allCoefficients}
 abbrev pub onlyEnd : spec.Sheet → Reader spec.Sheet
 onlyEnd s = _>>=_ (commandByte 0x0F) (λ c. done s)
 
+abbrev pub afterRun : ℕ → Poly → Bool → Reader spec.Sheet
+afterRun p f run = onlyEnd (record { prime = p; poly = f; run = run })
+
 abbrev pub afterCoefficients : ℕ → Poly → Reader spec.Sheet
-afterCoefficients p f = onlyEnd (spec.sheetOf p f)
+afterCoefficients p f = _>>=_ (flag 0x04 14 (hasRun p f)) (afterRun p f)
 
 abbrev pub afterDegree : ℕ → ℕ → Reader spec.Sheet
 afterDegree p n = _>>=_ (allCoefficients p n) (afterCoefficients p)

@@ -1,5 +1,6 @@
 -- The reader's steps: `StepOf reader limit part start at s`, the step s is what the specification's reader gives at a place of a part of the sheet.
--- Proves it of a byte, of a judged value and of a command with its operand, what it means that a command comes next, and how a reading goes on after a step.
+-- Proves it of a byte, of a judged value, of a command with its operand and of one that is there or not, what it means that a command comes next, and
+-- how a reading goes on after a step.
 -- Assumes nothing.
 use mathlib.Core.Path.{_≡_, refl, sym, _∙_, ap, ap₂, subst}
 use mathlib.Core.Bool.{Bool, true, false, false≢true}
@@ -11,8 +12,9 @@ use lib.ListN.{length, getD, drop, drop-of-length-le}
 use lib.Seq.{drop-cons}
 use lib.Dec.{T, eqb}
 use borrow.Author.Tests.{eqb-true, eqb-false}
-use Rattle.specification.specs.Reading.{Read, got, stop, Reader, goOn, _>>=_, judged, byte, commandByte, withOperand}
+use Rattle.specification.specs.Reading.{Read, got, stop, Reader, goOn, _>>=_, judged, byte, commandByte, withOperand, flag}
 use Rattle.lists.specs.Tests.{passes, fails}
+use Rattle.layouts.specs.ReaderLaws as laws
 use Rattle.layouts.specs.ReaderLaws.{Other, then-goes, then-stops}
 use Rattle.sheet_reader.specs.declared.Step.{Step}
 use Rattle.sheet_reader.specs.declared.Step.the-variants.{Taken, Fault}
@@ -56,6 +58,11 @@ module _ {A : Type 0} {meant : ℕ → A} {r : Reader A} {limit : ℕ} {part : L
 
   step-stops : {k place : ℕ} → s ≡ Fault k place → readAt r part start at ≡ stop k place
   step-stops e = w .same ∙ ap (asRead meant part start) e
+
+-- what an exact reader takes is good
+pub step-good : {r : Reader ℕ} {Good : ℕ → Type 0} {written : ℕ → List ℕ} {limit : ℕ} {part : List ℕ} {start at : ℕ} {s : Step} {v next : ℕ}
+    → laws.Exact r Good written → StepOf r limit part start at s → s ≡ Taken v next → Good v
+step-good {part = part} {start} {at} x w e = (rw (step-got w e) at (x .sound (start + at) (drop at part))) .0
 
 -- a fault is a step of whatever reader stops there
 pub step-fault : {A : Type 0} {meant : ℕ → A} {r : Reader A} {limit : ℕ} {part : List ℕ} {start at : ℕ} {s : Step} {k place : ℕ} → s ≡ Fault k place
@@ -110,6 +117,35 @@ module _ (code : ℕ) {part : List ℕ} {at : ℕ} where
 
   pub comes-none : length part ≤ at → Comes code part at false
   comes-none l = record { there = λ e. absurd (false≢true e); other = λ e. rw (drop-of-length-le part {i = at} l) tt }
+
+-- ---- a command that is there or not, as 1 or 0
+
+abbrev pub FlagOf : (code k : ℕ) (allowed : Bool) → List ℕ → ℕ → ℕ → Step → Type 0
+FlagOf code k allowed = StepAs (λ v. eqb v 1) (flag code k allowed) 2
+
+module _ (code k : ℕ) (allowed : Bool) {part : List ℕ} {start at : ℕ} {r : Bool} (next : Comes code part at r) where
+  pub flag-none : at ≤ length part → r ≡ false → FlagOf code k allowed part start at (Taken 0 at)
+  flag-none l e = record {
+    same = laws.flag-none code k allowed (start + at) (drop at part) (next .other e);
+    inside = record { low = omega arith; on = omega arith; reach = l };
+  }
+
+  pub flag-there : r ≡ true → T allowed → FlagOf code k allowed part start at (Taken 1 (at + 1))
+  flag-there e t =
+      let (l, bytes) = next .there e in
+      record {
+        same = rw bytes
+            (laws.flag-there code k allowed (start + at) (drop (at + 1) part) t
+            ∙ ap (λ (place : ℕ). got true place (drop (at + 1) part)) (let q : start + at + 1 ≡ start + (at + 1) = omega arith in q));
+        inside = record { low = omega arith; on = omega arith; reach = omega arith };
+      }
+
+  pub flag-wrong : r ≡ true → (T allowed → ⊥) → {place : ℕ} → place ≡ start + at
+      → FlagOf code k allowed part start at (Fault k place)
+  flag-wrong e h p = record {
+    same = rw (next .there e .1) (laws.flag-stops code k allowed (start + at) (drop (at + 1) part) h ∙ ap (stop k) (sym p));
+    inside = tt;
+  }
 
 -- ---- a judged value
 

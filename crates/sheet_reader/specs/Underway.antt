@@ -20,7 +20,7 @@ use Rattle.layouts.specs.Operands.{index-within, index-exact}
 use Rattle.sheet_reader.specs.declared.Coefficients.{Coefficients}
 use Rattle.sheet_reader.specs.declared.Step.{Step}
 use Rattle.sheet_reader.specs.declared.Step.the-variants.{Taken, Fault}
-use Rattle.sheet_reader.specs.Steps.{readAt, StepAs, StepOf, Comes, step-got, step-fault, Left, left-more, left-stops}
+use Rattle.sheet_reader.specs.Steps.{readAt, StepAs, StepOf, Comes, step-good, step-fault, Left, left-more, left-stops}
 
 -- the coefficients of a sheet with the prime p and the degree d
 abbrev pub allCoefficients : ℕ → ℕ → Reader Poly
@@ -130,9 +130,7 @@ module _ {part : List ℕ} {start p d : ℕ} {coefs : List ℕ} {least at : ℕ}
     }
       where
         risen : least ≤ i
-        risen =
-            let (t, q) = rw (step-got g e) at (index-exact d least .sound (start + at) (drop at part)) in
-            index-within d least i t .1
+        risen = index-within d least i (step-good (index-exact d least) g e) .1
 
     pub underway-more : {v next : ℕ} → ValueDue part start p d coefs least at → least < d → StepOf (valueOperand p) (p ²) part start at s → s ≡ Taken v next
         → Underway part start p d (set coefs least v) (least + 1) next

@@ -1,22 +1,25 @@
-// The sheet reader: a sheet's bytes as a prime and a polynomial, or the number and the place of the first fault.
+// The sheet reader: a sheet's bytes as a prime, a polynomial and what is asked for, or the number and the place of the first fault.
 // `read_sheet` takes any bytes. Each step's answer is a `Step`, and the first fault is handed back as it stands.
 ghost use mathlib.Core.Path.{_≡_};
+ghost use mathlib.Core.List.{[], _∷_};
 ghost use Prim.Native.Nat.{_+_, _*_, _<_, _≤_, _^_};
 ghost use lib.ListN.{length};
 ghost use Rattle.specification.specs.Limits.{_²};
 ghost use Rattle.specification.specs.Reading.{byte, commandByte, withOperand};
 ghost use Rattle.specification.specs.Coefficients.{indexOperand, valueOperand};
+ghost use Rattle.specification.specs.RunLength.{hasRun};
 ghost use Rattle.specification.specs.Sheets.{primeOperand, degreeOperand, whole, readSheet};
 ghost use Rattle.arrays.specs.Held.{Shaped};
 ghost use Rattle.commands.specs.AsSheet.{asSheet};
 ghost use Rattle.sheet_reader.specs.AsSheetRead.{sheetRead, refusal};
-ghost use Rattle.sheet_reader.specs.Steps.{readAt, StepOf, Comes};
+ghost use Rattle.sheet_reader.specs.Steps.{readAt, StepOf, Comes, FlagOf};
 ghost use Rattle.sheet_reader.specs.Underway.{CoefficientsOf};
 ghost use Rattle.sheet_reader.specs.Stages.{onlyEnd};
 use arrays::Coefs;
 use arrays::monomial;
 use commands::Sheet;
 use commands::coefficient_code;
+use commands::has_run;
 use polynomial::Poly;
 use polynomial::square;
 use primes::taken;
@@ -205,6 +208,24 @@ fn read_coefficients(part: &[u8], start: usize, prime: u8, degree: u16) -> Coeff
     }
 }
 
+// Whether 0x04 comes, as 1 or 0: the run length is asked for; 14: p divides the constant coefficient.
+fn run_at(sheet: &[u8], at: usize, prime: u8, constant: u16) -> Step
+    requires { ⌜ (at ≤ length (now sheet)) × (0 < prime) ⌝ }
+    ensures { λ r. ⌜ FlagOf 0x04 14 (hasRun prime (constant ∷ [])) (now (sheet .entry)) 0 at r ⌝ }
+{
+    if comes(sheet, at, 0x04) {
+        let next = at + 1;
+        if has_run(prime, constant) {
+            return Step::Taken(1, next);
+        }
+        return Step::Fault {
+            number: 14,
+            place: at,
+        };
+    }
+    Step::Taken(0, at)
+}
+
 // The number and the place of a step with the zero polynomial of prime 2; where a value is taken they are 0.
 fn refused(step: Step) -> SheetRead
     ensures { λ r. ⌜ r ≡ refusal step ⌝ }
@@ -225,6 +246,7 @@ fn refused(step: Step) -> SheetRead
             prime: 2,
             degree: 0,
             coefs: [0u16; 33],
+            run: false,
         },
     }
 }
@@ -251,7 +273,7 @@ fn ended(sheet: &[u8], at: usize, said: Sheet) -> SheetRead
     }
 }
 
-// A sheet's bytes as a prime and a polynomial.
+// A sheet's bytes as a prime, a polynomial and what is asked for.
 pub fn read_sheet(sheet: &[u8]) -> SheetRead
     ensures { λ r. ⌜ r ≡ sheetRead (readSheet (now (sheet .entry))) ⌝ }
 {
@@ -269,10 +291,15 @@ pub fn read_sheet(sheet: &[u8]) -> SheetRead
         return refused(third);
     };
     let coefs = read.coefs;
+    let fourth = run_at(sheet, start + used, prime as u8, coefs[0]);
+    let Step::Taken(run, last) = fourth else {
+        return refused(fourth);
+    };
     let said = Sheet {
         prime: prime as u8,
         degree: degree as usize,
         coefs: coefs,
+        run: run == 1,
     };
-    ended(sheet, start + used, said)
+    ended(sheet, last, said)
 }

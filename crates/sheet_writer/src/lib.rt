@@ -3,6 +3,7 @@
 ghost use mathlib.Core.List.{[], _∷_};
 ghost use Prim.Native.Nat.{_≤_};
 ghost use lib.ListN.{take};
+ghost use Rattle.specification.specs.Commands.{bytesOf, flagCommands};
 ghost use Rattle.specification.specs.Coefficients.{valueBytes};
 ghost use Rattle.specification.specs.Sheets.{sheetBytes};
 ghost use Rattle.layouts.specs.CoefficientBytes.{coefficientBytes};
@@ -61,12 +62,21 @@ pub fn write_head(out: &mut [u8], at: usize, s: Sheet) -> usize
     put_four(out, at, 0x01, s.prime, 0x02, s.degree as u8)
 }
 
-// What follows a sheet's coefficients: the end.
+// A command without operands, if it is asked for.
+fn write_flag(out: &mut [u8], at: usize, code: u8, asked: bool) -> usize
+    requires { ⌜ Room (now out) at (bytesOf (flagCommands code asked)) ⌝ }
+    ensures { λ r. ⌜ Wrote (now (out .entry)) (now (out .exit)) at (bytesOf (flagCommands code asked)) r ⌝ }
+{
+    if asked { put(out, at, code) } else { at }
+}
+
+// What follows a sheet's coefficients: what is asked for, and the end.
 fn write_last(out: &mut [u8], at: usize, s: Sheet) -> usize
     requires { ⌜ Room (now out) at (lastBytes (asSheet s)) ⌝ }
     ensures { λ r. ⌜ Wrote (now (out .entry)) (now (out .exit)) at (lastBytes (asSheet s)) r ⌝ }
 {
-    put(out, at, 0x0F)
+    let end = write_flag(out, at, 0x04, s.run);
+    put(out, end, 0x0F)
 }
 
 // A sheet, from place 0 on.

@@ -1,12 +1,14 @@
--- Answers: "0x01, 0x02, then each part as 0x11 with its factors, then 0x13, 0x0F".
+-- Answers: "0x01, 0x02, then each part as 0x11 with its factors, then 0x13, 0x0F", with 0x14 before the 0x0F where the sheet asks for its run.
 -- "The 0x02 here is followed by no 0x03 of its own."
 use Prim.Native.Nat.{ℕ}
+use mathlib.Core.Bool.{cond}
 use mathlib.Core.List.{List, [], _∷_, _++_, flatMap}
 use Rattle.specification.specs.Polynomials.{degree, lower}
 use Rattle.specification.specs.Parts.{Verdict, basic, solid, power, split, Factor, Part, partsOf}
 use Rattle.specification.specs.Totals.{Totals, totalsOf}
-use Rattle.specification.specs.Commands.{Command, command, bytesOf}
+use Rattle.specification.specs.Commands.{Command, command, bytesOf, twoBytes}
 use Rattle.specification.specs.Coefficients.{coefficientCommands}
+use Rattle.specification.specs.RunLength.{runLength}
 use Rattle.specification.specs.Sheets.{Sheet, headCommands}
 
 -- "verdict 1 to 4"
@@ -30,9 +32,13 @@ partCommands s P =
 abbrev pub totalCommand : Totals → Command
 totalCommand t = command 0x13 (t .factors ∷ t .different ∷ t .free ∷ [])
 
+-- "The answer then carries 0x14 with a two-byte operand, low byte first, before its 0x0F"
+unfoldable pub runCommands : Sheet → List Command
+runCommands s = cond (s .run) (command 0x14 (twoBytes (runLength (s .prime) (s .poly))) ∷ []) []
+
 -- all that follows the parts: "then 0x13, 0x0F"
 unfoldable pub endCommands : Sheet → Totals → List Command
-endCommands s t = totalCommand t ∷ command 0x0F [] ∷ []
+endCommands s t = totalCommand t ∷ (runCommands s ++ (command 0x0F [] ∷ []))
 
 -- the commands of a sheet's answer, these being its parts
 unfoldable pub answerCommands : Sheet → List Part → List Command

@@ -8,8 +8,8 @@ use lib.Dec.{ltb}
 use Rattle.specification.specs.Lists.{same}
 use Rattle.specification.specs.Limits.{answerArea, _²}
 use Rattle.specification.specs.Polynomials.{product}
-use Rattle.specification.specs.Commands.{operand, commands, firstWith}
-use Rattle.specification.specs.Sheets.{sheetOf, Reading, accepted, fault, readSheet, sheetBytes}
+use Rattle.specification.specs.Commands.{operand, commands, firstWith, has}
+use Rattle.specification.specs.Sheets.{Reading, accepted, fault, readSheet, sheetBytes}
 use Rattle.specification.specs.Answers.{answer}
 use Rattle.specification.specs.FactorList.{factorList}
 
@@ -52,11 +52,11 @@ splitCall area bytes = within area (answerTo (readSheet bytes))
 
 -- ---- an answer's sheet
 
--- the only sheet that bytes can answer: their prime, and the product of their list
+-- the only sheet that bytes can answer: their prime, the product of their list, and a run asked for if they show one
 unfoldable pub sheetIn : List ℕ → List ℕ
 sheetIn bytes =
     let p : ℕ = operand (firstWith 0x01 (commands bytes)) 0 in
-    sheetBytes (sheetOf p (product (p ²) (factorList bytes)))
+    sheetBytes (record { prime = p; poly = product (p ²) (factorList bytes); run = has 0x14 (commands bytes) })
 
 -- the bytes are "the answer to" an accepted sheet
 unfoldable pub isAnswerTo : Reading → List ℕ → Bool

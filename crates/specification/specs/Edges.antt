@@ -1,6 +1,7 @@
--- The edges of document 01, with a row at least for each of the numbers 1 to 9, as one table with one theorem.
+-- The edges of document 01 and of run lengths, with a row at least for each of the numbers 1 to 9 and 14, as one table with one theorem.
 -- A row has the call, the length of the answer area, the bytes handed in, and the number and place that come back.
--- Then the program's example there, back and in lines; other lines that it prints; an answer of two parts; item 3 where degrees are equal.
+-- Then the program's example there, back and in lines; other lines that it prints; an answer of two parts; item 3 where degrees are equal;
+-- and the example of request 1 of document 02, there, back and in lines.
 use mathlib.Core.Path.{_≡_, refl}
 use Prim.Native.Nat.{ℕ}
 use mathlib.Core.List.{List, [], _∷_, _++_, map}
@@ -38,6 +39,15 @@ exampleAnswer =
     0x01 ∷ 3 ∷ 0x02 ∷ 3 ∷ 0x11 ∷ 1 ∷ 3 ∷ 4 ∷ 0x12 ∷ 1 ∷ 2 ∷ 0x03 ∷ 0 ∷ 1 ∷ 0x12 ∷ 1 ∷ 1 ∷ 0x03 ∷ 0 ∷ 4
     ∷ 0x13 ∷ 3 ∷ 2 ∷ 2 ∷ 0x0F ∷ []
 
+-- "For x² + 1 modulo 4 it is 4": the sheet that asks for it
+abbrev pub runExample : List ℕ
+runExample = 0x01 ∷ 2 ∷ 0x02 ∷ 2 ∷ 0x03 ∷ 0 ∷ 1 ∷ 0x04 ∷ 0x0F ∷ []
+
+-- its answer: solid, and the run 4
+abbrev pub runExampleAnswer : List ℕ
+runExampleAnswer =
+    0x01 ∷ 2 ∷ 0x02 ∷ 2 ∷ 0x11 ∷ 1 ∷ 2 ∷ 2 ∷ 0x12 ∷ 2 ∷ 1 ∷ 0x03 ∷ 0 ∷ 1 ∷ 0x13 ∷ 1 ∷ 1 ∷ 0 ∷ 0x14 ∷ 4 ∷ 0 ∷ 0x0F ∷ []
+
 -- the table: the rows of document 01 under their text, then the others
 abbrev pub edges : List Edge
 edges =
@@ -70,12 +80,30 @@ edges =
     ∷ edge splitCall answerArea (0x01 ∷ 2 ∷ 0x02 ∷ 2 ∷ 0x03 ∷ 0 ∷ 1 ∷ 0x03 ∷ 0 ∷ 1 ∷ 0x0F ∷ []) 6 8
     ∷ edge splitCall answerArea (0x01 ∷ 2 ∷ 0x02 ∷ 1 ∷ 0x03 ∷ 0 ∷ 1 ∷ 0x03 ∷ 1 ∷ 1 ∷ 0x0F ∷ []) 6 8
     ∷ edge splitCall answerArea (0x01 ∷ 2 ∷ 0x02 ∷ 1 ∷ 0x0F ∷ 0x0F ∷ []) 8 5
+    -- 14 "at the place of 0x04": where p divides the constant coefficient, given or not, and whatever stands behind it
+    ∷ edge splitCall answerArea (0x01 ∷ 2 ∷ 0x02 ∷ 2 ∷ 0x04 ∷ 0x0F ∷ []) 14 4
+    ∷ edge splitCall answerArea (0x01 ∷ 2 ∷ 0x02 ∷ 2 ∷ 0x03 ∷ 0 ∷ 2 ∷ 0x04 ∷ 0x0F ∷ []) 14 7
+    ∷ edge splitCall answerArea (0x01 ∷ 2 ∷ 0x02 ∷ 2 ∷ 0x04 ∷ []) 14 4
+    ∷ edge splitCall answerArea (0x01 ∷ 2 ∷ 0x02 ∷ 2 ∷ 0x04 ∷ 0x03 ∷ 0 ∷ 1 ∷ 0x0F ∷ []) 14 4
+    -- 0x04 stands once, "just before 0x0F": 3 at what else follows it, 2 at the end, 8 after 0x0F
+    ∷ edge splitCall answerArea runExample 0 0
+    ∷ edge splitCall answerArea (0x01 ∷ 2 ∷ 0x02 ∷ 2 ∷ 0x03 ∷ 0 ∷ 1 ∷ 0x04 ∷ 0x04 ∷ 0x0F ∷ []) 3 8
+    ∷ edge splitCall answerArea (0x01 ∷ 2 ∷ 0x02 ∷ 2 ∷ 0x03 ∷ 0 ∷ 1 ∷ 0x04 ∷ 0x03 ∷ 1 ∷ 1 ∷ 0x0F ∷ []) 3 8
+    ∷ edge splitCall answerArea (0x01 ∷ 2 ∷ 0x04 ∷ []) 3 2
+    ∷ edge splitCall answerArea (0x01 ∷ 2 ∷ 0x02 ∷ 2 ∷ 0x03 ∷ 0 ∷ 1 ∷ 0x04 ∷ []) 2 8
+    ∷ edge splitCall answerArea (runExample ++ (0x04 ∷ [])) 8 9
     -- "The answer reader gives only 1 and 9"
     ∷ edge readCall 383 exampleAnswer 1 0
     ∷ edge readCall answerArea exampleAnswer 0 0
     ∷ edge readCall answerArea (exampleAnswer ++ (0x0F ∷ [])) 9 0
     ∷ edge readCall answerArea example 9 0
     ∷ edge readCall answerArea [] 9 0
+    -- an answer with another run, and one whose run is written without its high byte
+    ∷ edge readCall answerArea runExampleAnswer 0 0
+    ∷ edge readCall answerArea
+    (0x01 ∷ 2 ∷ 0x02 ∷ 2 ∷ 0x11 ∷ 1 ∷ 2 ∷ 2 ∷ 0x12 ∷ 2 ∷ 1 ∷ 0x03 ∷ 0 ∷ 1 ∷ 0x13 ∷ 1 ∷ 1 ∷ 0 ∷ 0x14 ∷ 8 ∷ 0 ∷ 0x0F ∷ []) 9 0
+    ∷ edge readCall answerArea
+    (0x01 ∷ 2 ∷ 0x02 ∷ 2 ∷ 0x11 ∷ 1 ∷ 2 ∷ 2 ∷ 0x12 ∷ 2 ∷ 1 ∷ 0x03 ∷ 0 ∷ 1 ∷ 0x13 ∷ 1 ∷ 1 ∷ 0 ∷ 0x14 ∷ 4 ∷ 0x0F ∷ []) 9 0
     ∷ []
 
 -- the definitions give the table
@@ -125,3 +153,18 @@ later-part-answered = refl
 pub order-holds : monics 2 2 ≡ (0 ∷ 0 ∷ 1 ∷ []) ∷ (1 ∷ 0 ∷ 1 ∷ []) ∷ (0 ∷ 1 ∷ 1 ∷ []) ∷ (1 ∷ 1 ∷ 1 ∷ []) ∷ []
 unfolding everything
 order-holds = refl
+
+-- the example of request 1, there
+pub run-answered : splitCall answerArea runExample ≡ success runExampleAnswer
+unfolding everything
+run-answered = refl
+
+-- and back, with its 0x04
+pub run-read : readCall answerArea runExampleAnswer ≡ success runExample
+unfolding everything
+run-read = refl
+
+-- its lines
+pub run-printed : printed runExample ≡ ascii "prime 2 degree 2\npart 1 2 solid\nfactor 1 1 0 1\ntotal 1 different 1 free 0\nrun 4\n"
+unfolding everything
+run-printed = refl

@@ -1,4 +1,4 @@
--- The factor list and the totals s, z and r that bytes hold: "Term 3 is read off bytes".
+-- The factor list, the totals s, z and r, and the run length that bytes hold: "Term 3 is read off bytes".
 -- They are read off the commands that the bytes are cut into.
 use Prim.Native.Nat.{ℕ}
 use mathlib.Core.Bool.{true, false, cond}
@@ -6,7 +6,7 @@ use mathlib.Core.List.{List, [], _∷_, _++_}
 use lib.ListN.{replicate}
 use lib.Dec.{eqb}
 use Rattle.specification.specs.Polynomials.{Poly, monomial}
-use Rattle.specification.specs.Commands.{Command, operand, commands, firstWith}
+use Rattle.specification.specs.Commands.{Command, operand, fromTwoBytes, commands, firstWith}
 use Rattle.specification.specs.Coefficients.{isCoefficient, withCoefficient}
 
 -- f with "the coefficients written directly after it, before any other command"
@@ -34,3 +34,7 @@ differentTotal bytes = operand (firstWith 0x13 (commands bytes)) 1
 -- r, the third operand of 0x13: "free digits"
 unfoldable pub freeTotal : List ℕ → ℕ
 freeTotal bytes = operand (firstWith 0x13 (commands bytes)) 2
+
+-- the operand of 0x14: the run length
+unfoldable pub runIn : List ℕ → ℕ
+runIn bytes = fromTwoBytes (firstWith 0x14 (commands bytes) .operands)

@@ -1,4 +1,4 @@
--- Document 01 as definitions, in reading order; what is claimed of them; and its two tables, worked by them.
+-- Documents 01 and 02 as definitions, in reading order; what is claimed of them; and their tables, worked by them.
 pub mod Limits
 pub mod Lists
 pub mod Polynomials
@@ -10,6 +10,7 @@ pub mod Totals
 pub mod Commands
 pub mod Reading
 pub mod Coefficients
+pub mod RunLength
 pub mod Sheets
 pub mod Answers
 pub mod FactorList
@@ -20,9 +21,11 @@ pub mod Items1to3
 pub mod Items4to9
 pub mod ReadOff
 pub mod Settings
+pub mod RunClaims
 pub mod SheetClaims
 pub mod ReaderClaims
 pub mod Text
 pub mod Open
 pub mod Trials
+pub mod RunTrials
 pub mod Edges

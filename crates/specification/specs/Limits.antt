@@ -1,5 +1,5 @@
--- The figures that document 01 settles: the primes, the highest degree, the length of the answer area.
--- No other definition of document 01 has them as figures.
+-- The figures that documents 01 and 02 settle: the primes, the highest degree, the length of the answer area, the longest run.
+-- No other definition has them as figures.
 use Prim.Native.Nat.{ℕ, suc, _*_}
 use mathlib.Core.Bool.{Bool}
 use mathlib.Core.List.{List, [], _∷_}
@@ -30,6 +30,10 @@ coefficientCount = suc degreeLimit
 -- number 1: "The answer area is shorter than 384 bytes"
 abbrev pub answerArea : ℕ
 answerArea = 384
+
+-- "from 1 to 65,535": the longest run that an answer shows
+abbrev pub runLimit : ℕ
+runLimit = 65535
 
 -- "the zero polynomial of prime 2", which refused calls give back
 abbrev pub refusedPrime : ℕ

@@ -11,15 +11,16 @@ use Rattle.specification.specs.Records.{constant, sum, difference, produ
 use Rattle.specification.specs.Powers.{polynomials, monics, monicsTo, highest, listed, powersAmong, powers, lifts, primary}
 use Rattle.specification.specs.Parts.{hBar, m1, w, u, splitting, partsOf}
 use Rattle.specification.specs.Totals.{members, listOf, different, freeDigits}
-use Rattle.specification.specs.Commands.{bytesOf, operandCount, commandsAfter, firstWith}
+use Rattle.specification.specs.Commands.{bytesOf, operandCount, commandsAfter, firstWith, has}
 use Rattle.specification.specs.Reading.{done, goOn, _>>=_, judged, onNext, byte, commandByte, withOperand, flag}
 use Rattle.specification.specs.Coefficients.{coefficientCommands, coefficients}
+use Rattle.specification.specs.RunLength.{powerLessOne, runLength, hasRun, pulse, pulses}
 use Rattle.specification.specs.Sheets.{sheet, whole, readSheet, headCommands, lastCommands, sheetCommands, sheetBytes}
-use Rattle.specification.specs.Answers.{factorCommands, partCommands, endCommands, answerCommands, answer}
-use Rattle.specification.specs.FactorList.{withCoefficients, factorsIn, factorList, factorTotal, differentTotal, freeTotal}
+use Rattle.specification.specs.Answers.{factorCommands, partCommands, runCommands, endCommands, answerCommands, answer}
+use Rattle.specification.specs.FactorList.{withCoefficients, factorsIn, factorList, factorTotal, differentTotal, freeTotal, runIn}
 use Rattle.specification.specs.Calls.{answerTo, splitCall, sheetIn, isAnswerTo, readCall}
 use Rattle.specification.specs.Text.{lastDigits, decimal, headText, coefficientText, factorText, partText, totalText, partsText, answerText}
-use Rattle.specification.specs.Text.{refusalText, printed}
+use Rattle.specification.specs.Text.{runText, refusalText, printed}
 
 unfoldable pub everything : Unit {0}
 unfolding
@@ -34,12 +35,13 @@ unfolding
     polynomials monics monicsTo highest listed powersAmong powers lifts primary
     hBar m1 w u splitting partsOf
     members listOf different freeDigits
-    bytesOf operandCount commandsAfter firstWith
+    bytesOf operandCount commandsAfter firstWith has
     done goOn _>>=_ judged onNext byte commandByte withOperand flag
     coefficientCommands coefficients
+    powerLessOne runLength hasRun pulse pulses
     sheet whole readSheet headCommands lastCommands sheetCommands sheetBytes
-    factorCommands partCommands endCommands answerCommands answer
-    withCoefficients factorsIn factorList factorTotal differentTotal freeTotal
+    factorCommands partCommands runCommands endCommands answerCommands answer
+    withCoefficients factorsIn factorList factorTotal differentTotal freeTotal runIn
     answerTo splitCall sheetIn isAnswerTo readCall
-    lastDigits decimal headText coefficientText factorText partText totalText partsText answerText refusalText printed
+    lastDigits decimal headText coefficientText factorText partText totalText partsText answerText runText refusalText printed
 everything = tt

@@ -2,12 +2,14 @@
 -- `AnswersFit`; `SheetsTaken`, with `GoodSheet` for what a sheet has to be; `LongInputs`, refused above `sheetLimit`.
 use mathlib.Core.Path.{_≡_}
 use mathlib.Core.Logic.{_↔_}
+use mathlib.Core.Bool.{true}
 use Prim.Native.Nat.{ℕ, _+_, _*_, _≤_, _<_}
 use mathlib.Core.List.{List, List·Memᴰ}
 use lib.ListN.{length}
 use lib.Dec.{T}
 use Rattle.specification.specs.Limits.{taken, degreeLimit, answerArea, _²}
 use Rattle.specification.specs.Polynomials.{degree}
+use Rattle.specification.specs.RunLength.{hasRun}
 use Rattle.specification.specs.Sheets.{Sheet, accepted, fault, readSheet, sheetBytes}
 use Rattle.specification.specs.Answers.{answer}
 use Rattle.specification.specs.Longest.{Monic}
@@ -30,14 +32,16 @@ pub record GoodSheet (s : Sheet) : Type 0 where
   pub prime : T (taken (s .prime))
   pub monic : Monic (s .prime ²) (s .poly)
   pub fits : degree (s .poly) ≤ degreeLimit
+  -- where the run is asked for: 14 is not its case
+  pub again : s .run ≡ true → T (hasRun (s .prime) (s .poly))
 
 -- the sheets taken are these, each written in one way: "so a polynomial has one sheet"
 abbrev pub SheetsTaken : Type 0
 SheetsTaken = (bytes : List ℕ) (s : Sheet) → (readSheet bytes ≡ accepted s) ↔ (GoodSheet s × (bytes ≡ sheetBytes s))
 
--- the most bytes a sheet has: 01 p 02 n, three for each coefficient below the top, 0F
+-- the most bytes a sheet has: 01 p 02 n, three for each coefficient below the top, 04, 0F
 abbrev pub sheetLimit : ℕ
-sheetLimit = 5 + 3 * degreeLimit
+sheetLimit = 6 + 3 * degreeLimit
 
 -- an input too long for a sheet: refused, at a place within the limit
 pub record LongRefused (bytes : List ℕ) : Type 0 where

@@ -3,12 +3,13 @@
 use Prim.Native.Nat.{ℕ, zero, suc, _+_, _/_, _%_}
 use Prim.Native.Char.{code}
 use Prim.Native.String as string
-use mathlib.Core.Bool.{true, false}
+use mathlib.Core.Bool.{true, false, cond}
 use mathlib.Core.List.{List, [], _∷_, _++_, flatMap}
 use lib.Dec.{ltb}
 use Rattle.specification.specs.Polynomials.{Poly, degree}
 use Rattle.specification.specs.Parts.{Verdict, basic, solid, power, split, Factor, Part, partsOf}
 use Rattle.specification.specs.Totals.{Totals, totalsOf}
+use Rattle.specification.specs.RunLength.{runLength}
 use Rattle.specification.specs.Sheets.{Sheet, accepted, fault, readSheet}
 
 -- ---- words and numbers
@@ -61,13 +62,17 @@ unfoldable pub partText : Part → List ℕ
 partText P =
     item "part " (degree (P .base)) ++ item " " (P .exponent) ++ verdictText (P .splitting .verdict) ++ flatMap factorText (P .splitting .factors)
 
--- "The last line holds the three totals"
+-- "The last line holds the three totals", unless a run follows
 unfoldable pub totalText : Totals → List ℕ
 totalText t = item "total " (t .factors) ++ item " different " (t .different) ++ item " free " (t .free) ++ ascii "\n"
 
+-- "`split` prints `run` and the number as its last line", if the sheet asks for it
+unfoldable pub runText : Sheet → List ℕ
+runText s = cond (s .run) (item "run " (runLength (s .prime) (s .poly)) ++ ascii "\n") []
+
 -- the lines for a sheet, these being its parts
 unfoldable pub partsText : Sheet → List Part → List ℕ
-partsText s Ps = headText (s .prime) (degree (s .poly)) ++ flatMap partText Ps ++ totalText (totalsOf Ps)
+partsText s Ps = headText (s .prime) (degree (s .poly)) ++ flatMap partText Ps ++ totalText (totalsOf Ps) ++ runText s
 
 -- the lines for a sheet
 unfoldable pub answerText : Sheet → List ℕ

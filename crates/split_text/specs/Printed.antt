@@ -1,5 +1,5 @@
 -- What is printed for the bytes of the program's input, in the two cases of their reading.
--- Proves that `textRoom` is room for it, and that what follows the first 102 bytes of an input changes nothing. Assumes nothing.
+-- Proves that `textRoom` is room for it, and that what follows the first 103 bytes of an input changes nothing. Assumes nothing.
 use mathlib.Core.Path.{_≡_, refl, sym, _∙_, ap, subst}
 use mathlib.Core.List.{List, _++_}
 use Prim.Native.Nat.{ℕ, suc, _<_}
@@ -9,6 +9,7 @@ use lib.Seq.{take-append-le}
 use Rattle.specification.specs.Sheets.{Sheet, Reading, accepted, fault, readSheet}
 use Rattle.specification.specs.Text.{answerText, refusalText, printed}
 use Rattle.specification.specs.SheetClaims.{sheetLimit}
+use Rattle.layouts.specs.ReaderBounds.{numbered-within}
 use Rattle.layouts.specs.SheetsRead.{read-is-good}
 use Rattle.layouts.specs.SheetLength.{fault-number, fault-place, first-bytes-decide}
 use Rattle.split_text.specs.TextSize.{textRoom, Sized, answer-sized, refusal-sized}
@@ -36,7 +37,7 @@ printed-sized bytes = subst (Sized textRoom) (sym (printed-is bytes)) (go (readS
   where
     go : (r : Reading) → readSheet bytes ≡ r → Sized textRoom (textOf r)
     go (accepted s) e = answer-sized s (read-is-good bytes s e)
-    go (fault k at) e = refusal-sized k at (omega (arith, fault-number bytes k at e)) (omega (arith, fault-place bytes k at e))
+    go (fault k at) e = refusal-sized k at (numbered-within k (fault-number bytes k at e) .1) (omega (arith, fault-place bytes k at e))
 
 -- ---- long inputs
 

@@ -1,13 +1,15 @@
 -- The lines of an answer over the code's arrays, as they are written one after the other.
 -- Proves that they are those of the definitions. Assumes nothing.
-use mathlib.Core.Path.{_≡_, refl, sym, ap, ap₂}
+use mathlib.Core.Path.{_≡_, refl, sym, _∙_, ap, ap₂}
+use mathlib.Core.Bool.{true, false}
 use mathlib.Core.List.{List, [], _∷_, _++_, map, flatMap}
 use Prim.Native.Nat.{ℕ, _≤_, _+_}
 use native.Mathlib.Numerals.{add-one}
 use native.Mathlib.Omega.{arith}
 use lib.ListN.{length, getD, take}
 use lib.Seq.{take-suc}
-use Rattle.specification.specs.Text.{ascii, item, headText, verdictText, coefficientText, factorText, partText, totalText, partsText, answerText}
+use Rattle.specification.specs.Text.{ascii, item, headText, verdictText, coefficientText, factorText, partText, totalText, runText, partsText, answerText}
+use Rattle.specification.specs.Sheets as spec
 use Rattle.arrays.specs.Listed.{degree-listed}
 use Rattle.part_verdict.specs.declared.Factor.{Factor}
 use Rattle.part_verdict.specs.declared.Part.{Part}
@@ -18,7 +20,7 @@ use Rattle.commands.specs.declared.Sheet.{Sheet}
 use Rattle.commands.specs.AsSheet.{asSheet}
 use Rattle.area.proofs.Turns.{Turns, each-turn}
 use Rattle.answer_writer.specs.declared.Totals.{Totals}
-use Rattle.answer_writer.specs.AnswerArrays.{asTotals, TotalsOf}
+use Rattle.answer_writer.specs.AnswerArrays.{asTotals, TotalsOf, runOf, run-asked}
 use Rattle.lists.specs.FlatMaps.{flatMap-map}
 use Rattle.answer_writer.specs.Writable.{heldParts}
 
@@ -64,12 +66,22 @@ pub totals-are : (t : Totals)
 unfolding totalText
 totals-are t = refl
 
+-- a run that is asked for, and none
+pub run-is : (s : spec.Sheet) {r : ℕ} → r ≡ runOf s → s .run ≡ true → item "run " r ++ ascii "\n" ≡ runText s
+unfolding runText
+run-is s h e = rw (e, h ∙ run-asked s e) refl
+
+pub no-run : (s : spec.Sheet) → s .run ≡ false → [] ≡ runText s
+unfolding runText
+no-run s e = rw e refl
+
 pub lines-are : (s : Sheet) → length (s .coefs) ≡ 33 → s .degree ≤ 32 → (xs : List Part) {t : Totals} → TotalsOf (map asPart xs) t
-    → headText (s .prime) (s .degree) ++ heldText xs ++ totalText (asTotals t) ≡ partsText (asSheet s) (map asPart xs)
+    → headText (s .prime) (s .degree) ++ heldText xs ++ totalText (asTotals t) ++ runText (asSheet s) ≡ partsText (asSheet s) (map asPart xs)
 unfolding partsText
 lines-are s long l xs e =
     rw (degree-listed (s .degree) (s .coefs) (omega arith))
-    (ap₂ (λ (parts totals : List ℕ). headText (s .prime) (s .degree) ++ parts ++ totals) (sym (flatMap-map partText asPart xs)) (ap totalText e))
+    (ap₂ (λ (parts totals : List ℕ). headText (s .prime) (s .degree) ++ parts ++ totals ++ runText (asSheet s))
+    (sym (flatMap-map partText asPart xs)) (ap totalText e))
 
 -- the lines of a sheet's own parts
 pub text-of-sheet : (s : Sheet) (a : Parts) → heldParts a ≡ sheetParts (asSheet s) → partsText (asSheet s) (heldParts a) ≡ answerText (asSheet s)

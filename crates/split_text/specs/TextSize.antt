@@ -1,10 +1,10 @@
 -- How long texts are: `Sized k bytes`, at most k bytes, each below 256.
--- Proves that the lines for a good sheet are at most 54 bytes and 38 for each degree, and with them that `textRoom` is room for any text.
+-- Proves that the lines for a good sheet are at most 64 bytes and 38 for each degree, and with them that `textRoom` is room for any text.
 -- Assumes nothing.
 use mathlib.Core.Path.{_≡_, subst}
 use mathlib.Core.Bool.{true}
 use mathlib.Core.List.{List, _++_, flatMap}
-use Prim.Native.Nat.{ℕ, _≤_, _<_, _+_, _*_}
+use Prim.Native.Nat.{ℕ, _≤_, _<_, _+_, _*_, _^_}
 use Prim.Native.String.{String}
 use native.Mathlib.Nat.{mul-le-mul-left, mul-le-mul-right}
 use native.Mathlib.Omega.{arith}
@@ -15,6 +15,7 @@ use Rattle.specification.specs.Lists.{allPass}
 use Rattle.specification.specs.Polynomials.{Poly, degree}
 use Rattle.specification.specs.Parts.{Verdict, basic, solid, power, split, Factor, Part}
 use Rattle.specification.specs.Totals.{listOf, total, different, freeDigits}
+use Rattle.specification.specs.RunLength.{runLength}
 use Rattle.specification.specs.Sheets.{Sheet}
 use Rattle.specification.specs.Text.{
   ascii,
@@ -26,16 +27,18 @@ use Rattle.specification.specs.Text.{
   partText,
   totalText,
   partsText,
+  runText,
   answerText,
   refusalText,
 }
 use Rattle.specification.specs.SheetClaims.{GoodSheet, sheetLimit}
-use Rattle.lists.specs.Tests.{passes}
+use Rattle.lists.specs.Tests.{picked, passes}
 use Rattle.lists.specs.AllAny.{all-member}
 use Rattle.lists.specs.FlatMaps.{all-flatMap, length-weighed}
 use Rattle.algebra.specs.TakenPrimes.{fits-byte, square-fits-byte}
 use Rattle.lists.specs.Members.{All, all-append, all-entries}
 use Rattle.lists.specs.Sums.{total as sum, total-one, member-le}
+use Rattle.runs.specs.RunLengths.{run-limit}
 use Rattle.layouts.specs.AnswerLayout.{sheetParts}
 use Rattle.layouts.specs.CommandBytes.{Byte}
 use Rattle.layouts.specs.ReaderBounds.{lastNumber}
@@ -78,8 +81,13 @@ low-bytes l t b i = ltb→lt b 256 (all-member (λ b. ltb b 256) l t i)
 sized-word : (word : String) → T (allPass (λ b. ltb b 256) (ascii word)) → Sized (length (ascii word)) (ascii word)
 sized-word word t = record { short = omega arith; low = low-bytes (ascii word) t }
 
+-- a number of k digits after its word
+sized-number : (word : String) → T (allPass (λ b. ltb b 256) (ascii word)) → (k n : ℕ) → 1 ≤ k → n < 10 ^ k → Sized (length (ascii word) + k) (item word n)
+sized-number word t k n l u = sized-append (sized-word word t) (record { short = length-decimal k n l u; low = bytes-decimal n })
+
+-- three digits are enough for a byte
 sized-item : (word : String) → T (allPass (λ b. ltb b 256) (ascii word)) → (n : ℕ) → n < 1000 → Sized (length (ascii word) + 3) (item word n)
-sized-item word t n l = sized-append (sized-word word t) (record { short = length-decimal n l; low = bytes-decimal n })
+sized-item word t n l = sized-number word t 3 n (omega arith) l
 
 -- ---- a factor and a part
 
@@ -124,18 +132,26 @@ module _ {n : ℕ} (small : n ≤ 256) where
       factors : All (λ q. Sized (19 * (degree (q .poly) * q .times)) (factorText q)) (P .splitting .factors)
       factors q i = sized-factor q (s .factors q i) (omega (arith, member-le (λ (r : Factor). degree (r .poly) * r .times) i, s .degrees))
 
+  -- a run has five digits
+  sized-run : (s : Sheet) → Sized 10 (runText s)
+  unfolding runText allPass
+  sized-run s = picked (Sized 10) (s .run)
+      (λ t. sized-append (sized-number "run " tt 5 (runLength (s .prime) (s .poly)) (omega arith) (omega (arith, run-limit (s .prime) (s .poly))))
+      (sized-word "\n" tt))
+      (λ t. record { short = omega arith; low = λ b i. elim i [ ] })
+
   sized-parts : (s : Sheet) (Ps : List Part) → s .prime < 1000 → degree (s .poly) < 1000 → All (PartShape n) Ps → partDegrees Ps ≤ degreeLimit
-      → Sized (54 + 38 * partDegrees Ps) (partsText s Ps)
+      → Sized (64 + 38 * partDegrees Ps) (partsText s Ps)
   unfolding partsText headText totalText allPass
   sized-parts s Ps k l h u =
       let all-low = total-bound Ps h in
       sized-within (omega arith)
-      (sized-append
+      (sized-append (sized-append
       (sized-append (sized-append (sized-append (sized-item "prime " tt (s .prime) k) (sized-item " degree " tt (degree (s .poly)) l)) (sized-word "\n" tt))
       (sized-each 38 partDegree partText Ps (λ P i. sized-part P (h P i) (omega (arith, member-le partDegree i)))))
       (sized-append (sized-append (sized-append (sized-item "total " tt (total Ps) (omega arith))
       (sized-item " different " tt (different (listOf Ps)) (omega (arith, different-bound (listOf Ps)))))
-      (sized-item " free " tt (freeDigits Ps) (omega (arith, free-bound Ps h)))) (sized-word "\n" tt)))
+      (sized-item " free " tt (freeDigits Ps) (omega (arith, free-bound Ps h)))) (sized-word "\n" tt))) (sized-run s))
 
 -- ---- the texts
 

@@ -12,13 +12,14 @@ ghost use Rattle.commands.specs.AsSheet.{asSheet};
 ghost use Rattle.part_verdict.specs.AsPart.{asVerdict, asFactor, asFactors, asPart};
 ghost use Rattle.part_list.specs.HeldParts.{held};
 ghost use Rattle.area.specs.Wrote.{Wrote, Room};
-ghost use Rattle.answer_writer.specs.AnswerArrays.{asTotals};
+ghost use Rattle.answer_writer.specs.AnswerArrays.{asTotals, runOf};
 ghost use Rattle.answer_writer.specs.Writable.{DegreesFit, heldParts, Writable};
 ghost use Rattle.split_text.specs.TextArrays.{heldText};
 ghost use Rattle.split_text.specs.TextSize.{textRoom};
 use answer_writer::Totals;
 use answer_writer::count_totals;
 use answer_writer::is_split;
+use answer_writer::run_asked;
 use area::put;
 use arrays::Coefs;
 use commands::Sheet;
@@ -33,7 +34,7 @@ use sheet_reader::read_sheet;
 pub const TEXT: usize = 2048;
 
 // One byte more than the longest sheet has.
-const INPUT: usize = 6 + 3 * Poly::LIMIT;
+const INPUT: usize = 7 + 3 * Poly::LIMIT;
 
 // The end of a line.
 const LINE_FEED: u8 = 10;
@@ -192,7 +193,7 @@ fn write_parts(out: &mut [u8], at: usize, parts: Parts) -> usize
     after
 }
 
-// "The last line holds the three totals".
+// "The last line holds the three totals", unless a run follows.
 fn write_totals(out: &mut [u8], at: usize, t: Totals) -> usize
     requires { ⌜ Room (now out) at (text.totalText (asTotals t)) ⌝ }
     ensures { λ r. ⌜ Wrote (now (out .entry)) (now (out .exit)) at (text.totalText (asTotals t)) r ⌝ }
@@ -202,15 +203,30 @@ fn write_totals(out: &mut [u8], at: usize, t: Totals) -> usize
     put(out, last, LINE_FEED)
 }
 
+// "`split` prints `run` and the number as its last line", if the sheet asks for it.
+fn write_run(out: &mut [u8], at: usize, s: Sheet, run: u16) -> usize
+    requires { ⌜ (run ≡ runOf (asSheet s)) × Room (now out) at (text.runText (asSheet s)) ⌝ }
+    ensures { λ r. ⌜ Wrote (now (out .entry)) (now (out .exit)) at (text.runText (asSheet s)) r ⌝ }
+{
+    if s.run {
+        let last = write_item(out, at, b"run ", run as usize);
+        put(out, last, LINE_FEED)
+    } else {
+        at
+    }
+}
+
 // The lines of a sheet whose parts these are.
 fn write_lines(out: &mut [u8], s: Sheet, parts: Parts) -> usize
     requires { ⌜ Writable s parts × Room (now out) 0 (text.partsText (asSheet s) (heldParts parts)) ⌝ }
     ensures { λ r. ⌜ Wrote (now (out .entry)) (now (out .exit)) 0 (text.partsText (asSheet s) (heldParts parts)) r ⌝ }
 {
     let t = count_totals(parts);
+    let run = run_asked(s);
     let first = write_head(out, 0, s.prime, s.degree);
-    let last = write_parts(out, first, parts);
-    write_totals(out, last, t)
+    let next = write_parts(out, first, parts);
+    let last = write_totals(out, next, t);
+    write_run(out, last, s, run)
 }
 
 // The lines for a sheet.

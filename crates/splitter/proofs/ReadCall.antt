@@ -7,7 +7,7 @@ use mathlib.Core.Logic.{_≢_}
 use Prim.Native.Nat.{ℕ, _≤_, _<_}
 use native.Mathlib.Omega.{arith}
 use lib.ListN.{length, getD, take, drop}
-use lib.Seq.{getD-take, length-take-le, ext-getD, take-append-seam}
+use lib.Seq.{getD-take, length-take-le, take-append-seam}
 use borrow.Author.Tests.{lt-ltb}
 use Rattle.specification.specs.Limits.{answerArea}
 use Rattle.specification.specs.Sheets.{Sheet, sheetBytes}
@@ -17,6 +17,7 @@ use Rattle.specification.specs.SheetClaims.{GoodSheet}
 use Rattle.layouts.specs.SheetsRead.{read-is-good, written-is-read}
 use Rattle.claims.specs.Proved.{reader-exact, reader-refuses}
 use Rattle.lists.specs.Decides.{Decides}
+use Rattle.lists.specs.SameLists.{entry-differs, entries-agree}
 use Rattle.area.specs.Wrote.{Wrote, wrote-from-start}
 use Rattle.commands.specs.AsSheet.{asSheet}
 use Rattle.answer_reader.specs.declared.Candidate.{Candidate}
@@ -32,13 +33,10 @@ module _ (a b : List ℕ) (n : ℕ) (fits : n ≤ length b) where
   lengths-differ ne = record { yes = λ q. absurd (false≢true q); no = λ q e. ne (ap length e ∙ long) }
 
   pub bytes-differ : (k : ℕ) → k < n → getD a k 0 ≢ getD b k 0 → Decides false (a ≡ take n b)
-  bytes-differ k l ne = record { yes = λ q. absurd (false≢true q); no = λ q e. ne (ap (λ (c : List ℕ). getD c k 0) e ∙ getD-take n b k 0 l) }
+  bytes-differ k l ne = entry-differs k (λ e. ne (e ∙ getD-take n b k 0 l))
 
   pub bytes-agree : length a ≡ n → ((k : ℕ) → k < n → getD a k 0 ≡ getD b k 0) → Decides true (a ≡ take n b)
-  bytes-agree e h = record {
-    yes = λ q. ext-getD 0 a (take n b) (e ∙ sym long) (λ k l. h k (omega arith) ∙ sym (getD-take n b k 0 (omega arith)));
-    no = λ q. absurd (true≢false q);
-  }
+  bytes-agree e h = entries-agree (e ∙ sym long) (λ k l. h k (omega arith) ∙ sym (getD-take n b k 0 (omega arith)))
 
 -- what was written from the start on
 pub wrote-first : {old new : List ℕ} {bytes : List ℕ} {after : ℕ} → Wrote old new 0 bytes after → take after new ≡ bytes

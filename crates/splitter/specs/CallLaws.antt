@@ -1,8 +1,9 @@
 -- What the customer's terms say of the two calls, of the number, the place, the count and the area that a call gives back: `Called` of the entry points'
--- contracts. Proves which numbers and places they give, that a refused call changes nothing, term 3 of the bytes that `split` wrote, that `read` takes
--- exactly the answers and gives back their sheets, and that each call undoes the other in any area long enough. Assumes nothing.
+-- contracts. Proves which numbers and places they give, that a refused call changes nothing, term 3, the settings and the run of the bytes that `split`
+-- wrote, that `read` takes exactly the answers and gives back their sheets, and that each call undoes the other in any area long enough. Assumes nothing.
 use mathlib.Core.Path.{_≡_, refl, sym, _∙_, ap, subst}
 use mathlib.Core.Logic.{_⊎_, inl, inr, _≢_, ⊎-elim, _↔_}
+use mathlib.Core.Bool.{true}
 use mathlib.Core.List.{List}
 use Prim.Native.Nat.{ℕ, _≤_, _<_}
 use native.Mathlib.Omega.{arith}
@@ -17,11 +18,13 @@ use Rattle.specification.specs.Calls.{splitCall, answerTo, readCall, sheetIn, i
 use Rattle.specification.specs.Term3.{LongestIn}
 use Rattle.specification.specs.ReaderClaims.{AnswerTo}
 use Rattle.specification.specs.Settings.{SettingsIn}
+use Rattle.specification.specs.RunClaims.{Run}
+use Rattle.specification.specs.FactorList.{runIn}
 use Rattle.algebra.specs.Numbers.{lt-or-le}
 use Rattle.lists.specs.Tests.{picked}
-use Rattle.layouts.specs.ReaderBounds.{Numbered}
+use Rattle.layouts.specs.ReaderBounds.{Numbered, numbered-within}
 use Rattle.layouts.specs.SheetLength.{fault-number, fault-place}
-use Rattle.claims.specs.Proved.{term-3, settings, reader-exact, split-succeeds, read-succeeds, split-then-read}
+use Rattle.claims.specs.Proved.{term-3, settings, runs, reader-exact, split-succeeds, read-succeeds, split-then-read}
 use Rattle.splitter.specs.declared.Outcome.{Outcome}
 use Rattle.splitter.specs.Outcomes.{Called, split-answered}
 
@@ -56,7 +59,7 @@ pub record Settled (Own : ℕ → ℕ → Type 0) (r : Outcome) (old new : List 
   -- "a refused call counts 0", and "changes no byte of the answer area"
   pub unchanged : r .number ≢ 0 → (new ≡ old) × (r .count ≡ 0)
 
--- a number of sheets, 2 to 8, at a place of the sheet or at its end
+-- a number of sheets, 2 to 8 or 14, at a place of the sheet or at its end
 abbrev pub SheetFault : List ℕ → ℕ → ℕ → Type 0
 SheetFault sheet k at = Numbered k × (at ≤ length sheet)
 
@@ -98,7 +101,7 @@ module _ (Own : ℕ → ℕ → Type 0) (r : Outcome) (old new : List ℕ) where
       unchanged = λ ne. (h .area, h .count);
     }
 
--- the numbers of `split` are 0 to 8
+-- the numbers of `split` are 0 to 8 and 14
 pub split-settled : (sheet : List ℕ) {r : Outcome} {old new : List ℕ} → Called (splitCall (length old) sheet) r old new
     → Settled (SheetFault sheet) r old new
 unfolding splitCall
@@ -108,7 +111,7 @@ split-settled sheet {r} {old} {new} = settled-within (SheetFault sheet) r old ne
     read l (accepted s) e = unfold answerTo in settled-success (SheetFault sheet) r old new l (answer s)
     read l (fault k at) e =
         let numbered = fault-number sheet k at e in
-        unfold answerTo in settled-refused (SheetFault sheet) r old new l k at (numbered .0) (numbered, fault-place sheet k at e .1)
+        unfold answerTo in settled-refused (SheetFault sheet) r old new l k at (numbered-within k numbered .0) (numbered, fault-place sheet k at e .1)
 
 -- "The answer reader gives only 1 and 9"
 pub read-settled : (bytes : List ℕ) {r : Outcome} {old new : List ℕ} → Called (readCall (length old) bytes) r old new → Settled NoAnswer r old new
@@ -140,6 +143,13 @@ module _ (sheet : List ℕ) {r : Outcome} {old new : List ℕ} (h : Called (spli
   split-settings l s e =
       let (z, is-answer) = sheets-answered l s e in
       (z, subst (SettingsIn s) (sym is-answer) (settings sheet s e))
+
+  -- "after how many pulses a pattern begins again"
+  pub split-run : answerArea ≤ length old → (s : Sheet) → readSheet sheet ≡ accepted s → s .run ≡ true
+      → (r .number ≡ 0) × Run (s .prime) (s .poly) (runIn (written r new))
+  split-run l s e asked =
+      let (z, is-answer) = sheets-answered l s e in
+      (z, subst (λ (bytes : List ℕ). Run (s .prime) (s .poly) (runIn bytes)) (sym is-answer) (runs sheet s e asked))
 
   split-success : r .number ≡ 0 → splitCall (length old) sheet ≡ success (written r new)
   split-success z = split-succeeds (length old) sheet (sym (h .number) ∙ z) ∙ ap success (sym (written-is h))

@@ -10,7 +10,7 @@ use borrow.Author.Tests.{not-true, not-false}
 use Rattle.specification.specs.Limits.{taken}
 use Rattle.algebra.specs.Numbers.{square-large}
 use Rattle.algebra.specs.TakenPrimes.{is-prime}
-use Rattle.answer_reader.proofs.CandidateFound.{no-answer, prime-there, prime-taken, degree-positive, candidate-found}
+use Rattle.answer_reader.proofs.CandidateFound.{no-answer, prime-there, prime-taken, degree-positive, run-allowed, candidate-found}
 use Rattle.answer_reader.proofs.find_candidate.Statement.{statement}
 use Rattle.answer_reader.proofs.find_candidate.Tie as tie
 
@@ -23,6 +23,10 @@ prime c = getD (c .before .before .args .answer .now) (c .find .result + 1) 0
 
 is-taken : (c : tie.Else2) → taken (prime (placed (c .before))) ≡ true
 is-taken c = sym (c .before .taken .ensures) ∙ not-false _ (c .if2 .left)
+
+-- the product is made
+abbrev multiplied : tie.After-shows-run → tie.After-multiply
+multiplied c = c .before .before .before .before
 
 pub find-candidate-spec : {M : Type 1} → statement M
 find-candidate-spec =
@@ -46,6 +50,20 @@ find-candidate-spec =
     let m = c .before .before .before in
     no-answer (c .no-candidate3 .ensures)
     (λ s g e. omega (arith, degree-positive s g e (placed (m .before .before) .find .ensures) (m .multiply .ensures))))  -- returns-3
+    (λ c κs. search needs)  -- shows-run-requires
+    (λ c. search needs)  -- array-read-run-allowed
+    (λ c κs. omega (arith, is-prime (is-taken (multiplied c .before)) .large))  -- run-allowed-requires
+    (λ c κs. search needs)  -- no-candidate-requires-4
     (λ c.
-    let m = c .before .before .before in
-    candidate-found (placed (m .before .before) .find .ensures) (m .multiply .ensures) (is-taken (m .before)) (omega arith)))  -- returns-4
+    let run = c .before .before .before in
+    let m = multiplied run in
+    no-answer (c .no-candidate4 .ensures)
+    (λ s g e.
+    c .before .before .run-allowed .ensures .no (not-true _ (c .before .if4 .taken))
+    (run-allowed s g e (placed (m .before .before) .find .ensures) (m .multiply .ensures) (run .shows-run .ensures))))  -- returns-4
+    (λ c.
+    let run = c .before .before in
+    let m = multiplied run in
+    candidate-found (placed (m .before .before) .find .ensures) (m .multiply .ensures) (is-taken (m .before))
+    (omega (arith, run .before .before .if3 .left)) (run .shows-run .ensures)
+    (c .before .run-allowed .ensures .yes (not-false _ (c .if4 .left)))))  -- returns-5

@@ -10,12 +10,15 @@ use Rattle.commands.specs.AsSheet.{asSheet}
 use Rattle.part_list.specs.HeldParts.{held}
 use Rattle.area.specs.Wrote.{Room, wrote-more, wrote-as, room-as, room-first, room-next}
 use Rattle.answer_writer.specs.AnswerArrays.{partsBytes, asTotals, answer-is}
-use Rattle.answer_writer.specs.Writable.{heldParts, writable-countable, answer-room}
+use Rattle.answer_writer.specs.Writable.{heldParts, writable-degree, writable-countable, answer-room}
 use Rattle.answer_writer.proofs.write_answer.Statement.{statement}
 use Rattle.answer_writer.proofs.write_answer.Tie as tie
 
+abbrev known : tie.After-write-head → tie.After-run-asked
+known c = c .before .before
+
 abbrev counted : tie.After-write-head → tie.After-count-totals
-counted c = c .before .before
+counted c = known c .before
 
 abbrev start : tie.After-write-head → tie.Start
 start c = counted c .before .before
@@ -41,14 +44,19 @@ write-answer-spec =
     tie.close
     (tie.spec
     (λ c κs. (c .before .pre .0 .count, writable-countable (c .before .pre .0)))  -- count-totals-requires
-    (λ c κs. let (writable, room) = c .before .before .before .pre in (writable .degree, room-first _ _ (answer-room writable room)))  -- write-head-requires
+    (λ c κs. c .before .before .pre .0 .given)  -- run-asked-requires
+    (λ c κs.
+    let (writable, room) = c .before .before .before .before .pre in
+    (writable-degree writable, room-first _ _ (answer-room writable room)))  -- write-head-requires
     (λ c κs.
     let written = c .before .before .before in
     let writable = start written .pre .0 in
     (writable .count, writable .degrees, room-first _ _ (rest-room written)))  -- write-parts-requires
     (λ c κs.
-    let written = c .before .before .before in
-    room-as (counted-end (headed written)) (room-next _ _ (rest-room (headed written)) (written .write-parts .ensures)))  -- write-end-requires
+    let written = c .before .before .before in (
+      known (headed written) .run-asked .ensures,
+      room-as (counted-end (headed written)) (room-next _ _ (rest-room (headed written)) (written .write-parts .ensures)),
+    ))  -- write-end-requires
     (λ c. search needs)  -- same-length
     (λ c.
     let written = c .before .before .before .before .before .before in

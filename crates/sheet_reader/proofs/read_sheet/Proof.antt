@@ -1,18 +1,26 @@
 -- `sheet_reader::read_sheet` meets its contract.
 -- Assumes nothing.
-use mathlib.Core.Path.{sym, _∙_, ap}
+use mathlib.Core.Path.{sym, _∙_, ap, subst}
+use mathlib.Core.Bool.{Bool}
 use Prim.Native.Nat.{ℕ, _+_, _<_}
 use native.Mathlib.Omega.{arith}
+use lib.Dec.{eqb}
 use borrow.Author.Needs.{needs}
+use Rattle.specification.specs.Polynomials.{Poly}
 use Rattle.specification.specs.Reading.{Read, Reader}
+use Rattle.specification.specs.RunLength.{hasRun}
 use Rattle.specification.specs.Sheets.{Sheet, sheet, whole, readSheet}
 use Rattle.arrays.specs.Listed.{listed}
+use Rattle.algebra.specs.Fields.{taken-prime}
+use Rattle.layouts.specs.Operands.{prime-exact}
+use Rattle.commands.specs.AsSheet.{constant-decides}
 use Rattle.sheet_reader.specs.AsSheetRead.{sheetRead}
-use Rattle.sheet_reader.specs.Steps.{StepAs, step-inside, left-more}
+use Rattle.sheet_reader.specs.Steps.{StepAs, FlagOf, step-inside, step-good, left-more}
 use Rattle.sheet_reader.specs.Underway.{allCoefficients}
 use Rattle.sheet_reader.specs.Stages.{
   afterPrime,
   afterDegree,
+  afterRun,
   afterCoefficients,
   LeftOf,
   left-first,
@@ -39,6 +47,10 @@ module _ (c : tie.After-known-told) where
 
   prime-low : p < 256
   prime-low = step-inside (c .before .before .before .prime-at .ensures) (c .before .first .given .1) .low
+
+  prime-positive : 0 < p
+  prime-positive =
+      omega (arith, taken-prime p (step-good prime-exact (c .before .before .before .prime-at .ensures) (c .before .first .given .1)) .large)
 
   prime-read : LeftAt start (afterPrime p) (c .before .first .given .0 .1 .0)
   prime-read = left-more afterPrime (left-first _) (c .before .before .before .prime-at .ensures) (c .before .first .given .1)
@@ -84,6 +96,39 @@ module _ (c : tie.After-known-told3) where
       let d = degree-stage answer-stage in
       left-more (afterCoefficients (p (prime-stage d))) (degree-read d) (coefficients-step answer-stage) (ap (moved (place d)) (c .before .third .given .1))
 
+-- 0x04 is looked for
+module _ (c : tie.After-run-at) where
+  abbrev coefficients-stage : tie.After-known-told3
+  coefficients-stage = c .before .before
+
+  abbrev used : ℕ
+  used = coefficients-stage .before .third .given .0 .1 .0
+
+  abbrev f : Poly
+  f = listed (n (degree-stage (answer-stage coefficients-stage))) (answer-stage coefficients-stage .read-coefficients .result .coefs)
+
+  run-step :
+      let d = degree-stage (answer-stage coefficients-stage) in
+      FlagOf 0x04 14 (hasRun (p (prime-stage d)) f) (start (prime-stage d) .args .sheet .now) 0
+      (place d + used) (c .run-at .result)
+  run-step =
+      let d = degree-stage (answer-stage coefficients-stage) in
+      subst (λ (allowed : Bool). FlagOf 0x04 14 allowed (start (prime-stage d) .args .sheet .now) 0 (place d + used) (c .run-at .result))
+      (sym (constant-decides (p (prime-stage d)) (n d) (answer-stage coefficients-stage .read-coefficients .result .coefs)))
+      (c .run-at .ensures)
+
+-- and it is known whether the run is asked for
+module _ (c : tie.After-known-told4) where
+  abbrev run-stage : tie.After-run-at
+  run-stage = c .before .before .before
+
+  run-read :
+      let d = degree-stage (answer-stage (coefficients-stage run-stage)) in
+      LeftAt (start (prime-stage d)) (afterRun (p (prime-stage d)) (f run-stage) (eqb (c .before .fourth .given .0 .0) 1)) (c .before .fourth .given .0 .1 .0)
+  run-read =
+      left-more (afterRun (p (prime-stage (degree-stage (answer-stage (coefficients-stage run-stage))))) (f run-stage))
+      (coefficients-read (coefficients-stage run-stage)) (run-step run-stage) (c .before .fourth .given .1)
+
 pub read-sheet-spec : {M : Type 1} → statement M
 unfolding readSheet
 read-sheet-spec =
@@ -120,8 +165,18 @@ read-sheet-spec =
     let d = degree-stage r in
     left-refused (afterCoefficients (p (prime-stage d))) (degree-read d) (coefficients-step r) (ap (moved (place d)) (c .before .enum-told3 .given .1))
     (c .refused3 .ensures ∙ refusal-moved (place d) (r .read-coefficients .result .step)))  -- returns-3
-    (λ c. omega (arith, prime-low (prime-stage (degree-stage (answer-stage (c .before))))))  -- cast-t17
-    (λ c. search needs)  -- cast-ended
-    (λ c. omega (arith, coefficients-read (c .before) .reach))  -- add-ended
-    (λ c κs. (coefficients-read (c .before) .reach, answer-stage (c .before) .read-coefficients .ensures .shaped))  -- ended-requires
-    (λ c. c .ended .ensures ∙ sym (ap (λ (x : Read Sheet). sheetRead (whole x)) (coefficients-read (c .before .before) .same))))  -- returns-4
+    (λ c. omega (arith, coefficients-read (c .before) .reach))  -- add-run-at
+    (λ c. omega (arith, prime-low (prime-stage (degree-stage (answer-stage (c .before))))))  -- cast-run-at
+    (λ c. search needs)  -- array-read-run-at
+    (λ c κs. (coefficients-read (c .before) .reach, prime-positive (prime-stage (degree-stage (answer-stage (c .before))))))  -- run-at-requires
+    (λ c. search needs)  -- enum-known-fourth
+    (λ c. search needs)  -- enum-told-4
+    (λ c κs. search needs)  -- refused-requires-4
+    (λ c.
+    let r = c .before .before .before in
+    left-refused (afterRun _ (f r)) (coefficients-read (coefficients-stage r)) (run-step r) (c .before .enum-told4 .given .1)
+    (c .refused4 .ensures))  -- returns-4
+    (λ c. omega (arith, prime-low (prime-stage (degree-stage (answer-stage (coefficients-stage (run-stage c)))))))  -- cast-t20
+    (λ c. search needs)  -- cast-t17
+    (λ c κs. (run-read c .reach, answer-stage (coefficients-stage (run-stage c)) .read-coefficients .ensures .shaped))  -- ended-requires
+    (λ c. c .ended .ensures ∙ sym (ap (λ (x : Read Sheet). sheetRead (whole x)) (run-read (c .before) .same))))  -- returns-5

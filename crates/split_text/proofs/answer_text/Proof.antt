@@ -1,7 +1,6 @@
 -- `split_text::answer_text` meets its contract.
 -- Assumes nothing.
 use mathlib.Core.Path.{_≡_}
-use native.Mathlib.Omega.{arith}
 use borrow.Author.Needs.{needs}
 use Rattle.specification.specs.Text.{partsText, answerText}
 use Rattle.commands.specs.AsSheet.{asSheet}
@@ -30,7 +29,7 @@ answer-text-spec =
     let s = start found .args .s in
     let (monic, good, long) = start found .pre in
     let e = found .parts-of .ensures in (
-      writable s (found .parts-of .result) (e .is) (omega (arith, monic .array .fits)) good (e .few) (e .arrays),
+      writable s (found .parts-of .result) (e .is) monic good (e .few) (e .arrays),
       room-as (text found) (sized-room (answer-sized (asSheet s) good) long),
     ))  -- write-lines-requires
     (λ c. search needs)  -- same-length

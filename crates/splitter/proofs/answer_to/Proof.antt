@@ -1,6 +1,5 @@
 -- `splitter::answer_to` meets its contract.
 -- Assumes nothing.
-use native.Mathlib.Omega.{arith}
 use borrow.Author.Needs.{needs}
 use Rattle.area.specs.Wrote.{wrote-as}
 use Rattle.answer_writer.specs.Writable.{answer-of-sheet, writable}
@@ -20,8 +19,7 @@ answer-to-spec =
     let found = c .before in
     let (monic, good, long) = start found .pre in
     let e = found .parts-of .ensures in (
-      writable (start found .args .s) (found .parts-of .result) (e .is) (omega (arith, monic .array .fits)) good (e .few)
-          (e .arrays),
+      writable (start found .args .s) (found .parts-of .result) (e .is) monic good (e .few) (e .arrays),
       long,
     ))  -- write-answer-requires
     (λ c. search needs)  -- same-length

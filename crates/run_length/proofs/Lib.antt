@@ -1,0 +1,8 @@
+mod PowerOfOne
+mod MarkSum
+mod MarkTable
+mod MarkSearch
+mod MeetingSearch
+mod RowTable
+mod RowSum
+mod GreatSteps

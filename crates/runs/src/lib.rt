@@ -1,0 +1,1 @@
+// Run lengths of the definitions of document 02: theorems only, in specs/.
