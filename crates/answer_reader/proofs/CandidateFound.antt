@@ -104,7 +104,7 @@ module _ {bytes : List ℕ} (s : spec.Sheet) (g : GoodSheet s) (e : bytes ≡ an
         subst T
         (ap (hasRun (s .prime)) (sym poly-is) ∙ constant-decides (s .prime) (r .degree) (r .coefs)
         ∙ ap (λ (p : ℕ). hasRun p (getD (r .coefs) 0 0 ∷ [])) (sym prime-is))
-        (g .again (sym run-is ∙ sym shown ∙ asked))
+        (g .mayAsk (sym run-is ∙ sym shown ∙ asked))
 
 -- ---- a product of degree 1 or more
 
@@ -114,7 +114,7 @@ array-good p d coefs t l m = record {
   prime = subst T (sym t) tt;
   monic = to-claimed l list;
   fits = omega (arith, list .reduced .len, m .fits);
-  again = λ e. absurd (false≢true e);
+  mayAsk = λ e. absurd (false≢true e);
 }
   where
     list : MonicList (p ²) d (listed d coefs)

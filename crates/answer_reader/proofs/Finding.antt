@@ -15,7 +15,7 @@ use Rattle.specification.specs.Lists.{first, anyPasses}
 use Rattle.specification.specs.Commands.{Command, command, operandCount, commands, firstWith, has}
 use Rattle.algebra.specs.Numbers.{lt-or-le}
 use Rattle.lists.specs.Members.{all-cons, all-append}
-use Rattle.layouts.specs.CommandsReadBack.{Without, firstWith-past, has-past}
+use Rattle.layouts.specs.CommandsReadBack.{Without, PassesOver, firstWith-past, has-past}
 use Rattle.answer_reader.specs.CommandPlaces.{commandsFrom, commandAt, placeAfter, commands-step, commands-end}
 use Rattle.answer_reader.specs.FoundInBytes.{FoundAt}
 
@@ -59,27 +59,30 @@ module _ (bytes : List ℕ) (code : ℕ) where
 -- ---- what was found
 
 module _ {bytes : List ℕ} {code at : ℕ} (h : FoundAt bytes code at) where
+  -- what is read off commands with the code is read from its place on
+  module _ {A : Type 0} (F : List Command → A) (past : PassesOver code F) where
+    from-place : F (commands bytes) ≡ F (commandsFrom bytes at)
+    from-place = ap F (h .cut) ∙ past (h .before) (commandsFrom bytes at) (h .others)
+
+    from-command : at < length bytes → F (commands bytes) ≡ F (commandAt bytes at ∷ commandsFrom bytes (placeAfter bytes at))
+    from-command l = from-place ∙ ap F (commands-step bytes at l)
+
+    from-end : length bytes ≤ at → F (commands bytes) ≡ F []
+    from-end l = from-place ∙ ap F (commands-end bytes at l)
+
   pub first-found : at < length bytes → firstWith code (commands bytes) ≡ commandAt bytes at
   first-found l =
-      ap (firstWith code) (h .cut ∙ ap (λ (cs : List Command). h .before ++ cs) (commands-step bytes at l))
-      ∙ firstWith-past code (h .before) (commandAt bytes at ∷ commandsFrom bytes (placeAfter bytes at)) (h .others)
+      from-command (firstWith code) (firstWith-past code) l
       ∙ first-here code (commandAt bytes at) (commandsFrom bytes (placeAfter bytes at)) (h .here l)
 
   pub first-missing : length bytes ≤ at → firstWith code (commands bytes) ≡ command code []
-  first-missing l =
-      ap (firstWith code) (h .cut ∙ ap (λ (cs : List Command). h .before ++ cs) (commands-end bytes at l))
-      ∙ firstWith-past code (h .before) [] (h .others) ∙ (unfold firstWith first in refl)
+  first-missing l = from-end (firstWith code) (firstWith-past code) l ∙ (unfold firstWith first in refl)
 
   has-found : at < length bytes → has code (commands bytes) ≡ true
-  has-found l =
-      ap (has code) (h .cut ∙ ap (λ (cs : List Command). h .before ++ cs) (commands-step bytes at l))
-      ∙ has-past code (h .before) (commandAt bytes at ∷ commandsFrom bytes (placeAfter bytes at)) (h .others)
-      ∙ (unfold has anyPasses in rw (eq-eqb (getD bytes at 0) code (h .here l)) refl)
+  has-found l = from-command (has code) (has-past code) l ∙ (unfold has anyPasses in rw (eq-eqb (getD bytes at 0) code (h .here l)) refl)
 
   has-missing : length bytes ≤ at → has code (commands bytes) ≡ false
-  has-missing l =
-      ap (has code) (h .cut ∙ ap (λ (cs : List Command). h .before ++ cs) (commands-end bytes at l))
-      ∙ has-past code (h .before) [] (h .others) ∙ (unfold has anyPasses in refl)
+  has-missing l = from-end (has code) (has-past code) l ∙ (unfold has anyPasses in refl)
 
   -- it is there if its place is
   pub has-by-place : ltb at (length bytes) ≡ has code (commands bytes)

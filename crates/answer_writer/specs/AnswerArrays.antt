@@ -66,18 +66,18 @@ TotalsOf Ps t = asTotals t ≡ totalsOf Ps
 -- what is asked of a sheet whose run is worked out: monic, and 14 is not its case
 pub record RunGiven (s : Struct) : Type 0 where
   pub monic : MonicModSquare (s .prime) (s .coefs) (s .degree)
-  pub again : s .run ≡ true → T (hasRun (s .prime) (listed (s .degree) (s .coefs)))
+  pub mayAsk : s .run ≡ true → T (hasRun (s .prime) (listed (s .degree) (s .coefs)))
 
 -- the run length, if the sheet asks for it
 abbrev pub runOf : Sheet → ℕ
 runOf s = cond (s .run) (runLength (s .prime) (s .poly)) 0
 
-pub run-asked : (s : Sheet) → s .run ≡ true → runOf s ≡ runLength (s .prime) (s .poly)
-run-asked s e = rw e refl
+pub runOf-asked : (s : Sheet) → s .run ≡ true → runOf s ≡ runLength (s .prime) (s .poly)
+runOf-asked s e = rw e refl
 
 -- 0x14 with it, "low byte first"
 pub run-written : (s : Sheet) {r : ℕ} → r ≡ runOf s → s .run ≡ true → 0x14 ∷ r % 256 ∷ r / 256 ∷ [] ≡ runBytes s
-run-written s h e = ap (λ (k : ℕ). 0x14 ∷ twoBytes k) (h ∙ run-asked s e) ∙ sym (runBytes-asked s e)
+run-written s h e = ap (λ (k : ℕ). 0x14 ∷ twoBytes k) (h ∙ runOf-asked s e) ∙ sym (runBytes-asked s e)
 
 -- ---- the whole
 

@@ -103,7 +103,7 @@ module _ (s : Sheet) (a : Parts) (is : heldParts a ≡ sheetParts (asSheet s)) w
   pub writable : MonicModSquare (s .prime) (s .coefs) (s .degree) → GoodSheet (asSheet s) → a .count ≤ 32 → All (PartHeld (s .prime)) (held a)
       → Writable s a
   writable m g few arrays = record {
-    given = record { monic = m; again = g .again };
+    given = record { monic = m; mayAsk = g .mayAsk };
     count = few;
     degrees = λ x i. let h = arrays x i in record { base = h .base .shaped .fits; first = h .first .shaped .fits; second = h .second .shaped .fits };
     fits = subst Fits (sym answer-of-sheet) (fits (asSheet s) g);

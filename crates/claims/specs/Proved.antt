@@ -170,7 +170,7 @@ settings bytes s e = let g = read-is-good bytes s e in rw (free-back s) (setting
 pub runs : Runs
 runs bytes s e asked =
     let g = read-is-good bytes s e in
-    subst (Run (s .prime) (s .poly)) (sym (run-back s asked)) (run-holds (prime s g) (monic s g) (g .monic .positive) (g .again asked))
+    subst (Run (s .prime) (s .poly)) (sym (run-back s asked)) (run-holds (prime s g) (monic s g) (g .monic .positive) (g .mayAsk asked))
 
 pub runs-shown : RunsShown
 runs-shown bytes s e = run-shown s

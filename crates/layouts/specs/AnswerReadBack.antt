@@ -26,7 +26,17 @@ use Rattle.layouts.specs.CommandBytes.{all-asked, two-back}
 use Rattle.layouts.specs.CoefficientBytes.{all-coefficients}
 use Rattle.layouts.specs.AnswerLayout.{sheetParts}
 use Rattle.items.specs.ListOfParts.{copies-cons, listOf-cons}
-use Rattle.layouts.specs.CommandsReadBack.{WellFormed, commands-back, Without, firstWith-past, has-past, factors-past, NoCoefficient, written-back}
+use Rattle.layouts.specs.CommandsReadBack.{
+  WellFormed,
+  commands-back,
+  Without,
+  PassesOver,
+  firstWith-past,
+  has-past,
+  factors-past,
+  NoCoefficient,
+  written-back,
+}
 
 -- every factor of every part is monic modulo n
 abbrev pub MonicFactors : ℕ → List Part → Type 0
@@ -157,25 +167,18 @@ module _ (s : Sheet) where
   -- what stands in the head or in the end alone is found past the parts
   module _ (code : ℕ) (part : eqb 0x11 code ≡ false) (factor : eqb 0x12 code ≡ false) (coefficient : eqb (coefficientCode (s .prime)) code ≡ false)
       (head : Without code (headCommands s)) where
-    end-back : firstWith code (commands (answer s)) ≡ firstWith code (endCommands s (totalsOf Ps))
+    end-alone : {A : Type 0} (F : List Command → A) → PassesOver code F → F (commands (answer s)) ≡ F (endCommands s (totalsOf Ps))
     unfolding answerCommands
-    end-back =
-        ap (firstWith code) answer-commands
-        ∙ firstWith-past code (headCommands s) (flatMap (partCommands s) Ps ++ endCommands s (totalsOf Ps)) head
-        ∙ firstWith-past code (flatMap (partCommands s) Ps) (endCommands s (totalsOf Ps)) (parts-without s code part factor coefficient Ps)
-
-    end-has : has code (commands (answer s)) ≡ has code (endCommands s (totalsOf Ps))
-    unfolding answerCommands
-    end-has =
-        ap (has code) answer-commands
-        ∙ has-past code (headCommands s) (flatMap (partCommands s) Ps ++ endCommands s (totalsOf Ps)) head
-        ∙ has-past code (flatMap (partCommands s) Ps) (endCommands s (totalsOf Ps)) (parts-without s code part factor coefficient Ps)
+    end-alone F past =
+        ap F answer-commands
+        ∙ past (headCommands s) (flatMap (partCommands s) Ps ++ endCommands s (totalsOf Ps)) head
+        ∙ past (flatMap (partCommands s) Ps) (endCommands s (totalsOf Ps)) (parts-without s code part factor coefficient Ps)
 
   pub head-back : firstWith 0x01 (commands (answer s)) ≡ command 0x01 (s .prime ∷ [])
   head-back = rw answer-commands (unfold answerCommands headCommands firstWith first in refl)
 
   totals : firstWith 0x13 (commands (answer s)) ≡ firstWith 0x13 (endCommands s (totalsOf Ps))
-  totals = end-back 0x13 refl refl refl (unfold headCommands in all-cons refl (all-cons refl (λ c i. elim i [ ])))
+  totals = end-alone 0x13 refl refl refl (unfold headCommands in all-cons refl (all-cons refl (λ c i. elim i [ ]))) (firstWith 0x13) (firstWith-past 0x13)
 
   pub total-back : factorTotal (answer s) ≡ total Ps
   unfolding factorTotal firstWith first endCommands
@@ -190,13 +193,13 @@ module _ (s : Sheet) where
   free-back = rw totals refl
 
   -- a run is shown where it is asked for, and is the run length
-  no-run : Without 0x14 (headCommands s)
+  head-without-run : Without 0x14 (headCommands s)
   unfolding headCommands
-  no-run = all-cons refl (all-cons refl (λ c i. elim i [ ]))
+  head-without-run = all-cons refl (all-cons refl (λ c i. elim i [ ]))
 
   pub run-shown : has 0x14 (commands (answer s)) ≡ s .run
   unfolding endCommands runCommands has anyPasses
-  run-shown = end-has 0x14 refl refl refl no-run ∙ asked (s .run) (command 0x14 _) refl
+  run-shown = end-alone 0x14 refl refl refl head-without-run (has 0x14) (has-past 0x14) ∙ asked (s .run) (command 0x14 _) refl
     where
       asked : (b : Bool) (c : Command) → c .code ≡ 0x14 → has 0x14 (cond b (c ∷ []) [] ++ (command 0x0F [] ∷ [])) ≡ b
       asked true c e = rw e refl
@@ -204,7 +207,7 @@ module _ (s : Sheet) where
 
   run-command : s .run ≡ true → firstWith 0x14 (commands (answer s)) ≡ command 0x14 (twoBytes (runLength (s .prime) (s .poly)))
   unfolding endCommands runCommands firstWith first
-  run-command e = end-back 0x14 refl refl refl no-run ∙ rw e refl
+  run-command e = end-alone 0x14 refl refl refl head-without-run (firstWith 0x14) (firstWith-past 0x14) ∙ rw e refl
 
   pub run-back : s .run ≡ true → runIn (answer s) ≡ runLength (s .prime) (s .poly)
   unfolding runIn

@@ -56,15 +56,19 @@ commands-back (c ∷ cs) h = commands-cons c (bytesOf cs) (h c (here refl)) ∙ 
 abbrev pub Without : ℕ → List Command → Type 0
 Without code cs = All (λ (c : Command). eqb (c .code) code ≡ false) cs
 
-pub firstWith-past : (code : ℕ) (cs ds : List Command) → Without code cs → firstWith code (cs ++ ds) ≡ firstWith code ds
+-- what is read off commands with a code passes over the others
+abbrev pub PassesOver : {A : Type 0} → ℕ → (List Command → A) → Type 0
+PassesOver code F = (cs ds : List Command) → Without code cs → F (cs ++ ds) ≡ F ds
+
+pub firstWith-past : (code : ℕ) → PassesOver code (firstWith code)
 unfolding firstWith
 firstWith-past code cs ds h = first-past (λ (c : Command). eqb (c .code) code) (command code []) cs ds h
 
-pub has-past : (code : ℕ) (cs ds : List Command) → Without code cs → has code (cs ++ ds) ≡ has code ds
+pub has-past : (code : ℕ) → PassesOver code (has code)
 unfolding has
 has-past code cs ds h = any-past (λ (c : Command). eqb (c .code) code) cs ds h
 
-pub factors-past : (cs ds : List Command) → Without 0x12 cs → factorsIn (cs ++ ds) ≡ factorsIn ds
+pub factors-past : PassesOver 0x12 factorsIn
 unfolding factorsIn
 factors-past [] ds h = refl
 factors-past (c ∷ cs) ds h = rw (h c (here refl)) (factors-past cs ds (all-tail h))

@@ -33,7 +33,7 @@ monomial-good p n t l u = record {
   prime = t;
   monic = record { positive = omega (arith, degree-monomial n); leadsWithOne = monomial-top n (degree (monomial n)) (sym (degree-monomial n)); reduced = low };
   fits = omega (arith, degree-monomial n);
-  again = λ e. absurd (false≢true e);
+  mayAsk = λ e. absurd (false≢true e);
 }
   where
     square : 1 < p ²
@@ -55,7 +55,7 @@ set-good s i v g l u = record {
     reduced = low;
   };
   fits = omega (arith, long, g .fits);
-  again = λ e. absurd (false≢true e);
+  mayAsk = λ e. absurd (false≢true e);
 }
   where
     long : length (set (s .poly) i v) ≡ length (s .poly)
@@ -80,4 +80,4 @@ set-good s i v g l u = record {
 
 pub asked-good : {p : ℕ} {f : Poly} {run : Bool} → GoodSheet (sheetOf p f) → (run ≡ true → T (hasRun p f))
     → GoodSheet (record { prime = p; poly = f; run = run })
-asked-good g again = record { prime = g .prime; monic = g .monic; fits = g .fits; again = again }
+asked-good g may-ask = record { prime = g .prime; monic = g .monic; fits = g .fits; mayAsk = may-ask }

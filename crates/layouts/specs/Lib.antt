@@ -6,6 +6,7 @@ pub mod CoefficientBytes
 pub mod SheetLayout
 pub mod GoodSheets
 pub mod CoefficientsRead
+pub mod SheetStages
 pub mod SheetsRead
 pub mod SheetLength
 pub mod SheetSize

@@ -9,10 +9,10 @@ use Prim.Native.Nat.{ℕ, suc, _+_}
 use native.Mathlib.Omega.{arith}
 use lib.ListN.{length, length-append}
 use Rattle.specification.specs.Lists.{anyPasses}
-use Rattle.specification.specs.Polynomials.{Poly, degree, lower, monomial}
+use Rattle.specification.specs.Polynomials.{degree, lower}
 use Rattle.specification.specs.Commands.{bytesOf, flagCommands}
-use Rattle.specification.specs.Reading.{Read, got, stop, Reader, done, _>>=_, _>>_, commandByte, withOperand, flag}
-use Rattle.specification.specs.Coefficients.{coefficientCode, coefficients}
+use Rattle.specification.specs.Reading.{Read, got, stop, done, commandByte, withOperand, flag}
+use Rattle.specification.specs.Coefficients.{coefficientCode}
 use Rattle.specification.specs.RunLength.{hasRun}
 use Rattle.specification.specs.Sheets.{Sheet, primeOperand, degreeOperand, sheet, accepted, whole, readSheet, sheetBytes}
 use Rattle.specification.specs.SheetClaims.{GoodSheet}
@@ -22,6 +22,7 @@ use Rattle.layouts.specs.Operands.{degree-passes, degree-within, prime-e
 use Rattle.layouts.specs.CoefficientBytes.{coefficientBytes}
 use Rattle.layouts.specs.SheetLayout.{headBytes-is, lastBytes-is, sheetBytes-is}
 use Rattle.layouts.specs.GoodSheets.{asked-good}
+use Rattle.layouts.specs.SheetStages.{allCoefficients, afterCoefficients, afterDegree}
 use Rattle.layouts.specs.CoefficientsRead.{coefficients-sound, coefficients-complete}
 
 -- what is asked for, with its bytes
@@ -57,25 +58,13 @@ sheet-sound bytes =
     holds-then (Found bytes) (withOperand 0x01 primeOperand) _ 0 bytes (prime-exact .sound 0 bytes) (λ p at₂ rest₂ (t, e₂).
     holds-then (Found bytes) (withOperand 0x02 degreeOperand) _ at₂ rest₂ (degree-exact .sound at₂ rest₂) (λ n at₄ rest₄ (u, e₄).
     let (low, high) = degree-within n u in
-    holds-then (Found bytes) (coefficients (suc n) p 0 (monomial n)) _ at₄ rest₄ (coefficients-sound p n t low high at₄ rest₄) (λ f at₅ rest₅ (good, d, e₅).
-    holds-then (Found bytes) (flag 0x04 14 (hasRun p f)) _ at₅ rest₅ (flag-sound 0x04 14 (hasRun p f) at₅ rest₅) (λ run at₆ rest₆ (again, e₆).
+    holds-then (Found bytes) (allCoefficients p n) _ at₄ rest₄ (coefficients-sound p n t low high at₄ rest₄) (λ f at₅ rest₅ (good, d, e₅).
+    holds-then (Found bytes) (flag 0x04 14 (hasRun p f)) _ at₅ rest₅ (flag-sound 0x04 14 (hasRun p f) at₅ rest₅) (λ run at₆ rest₆ (may-ask, e₆).
     let s : Sheet = record { prime = p; poly = f; run = run } in
     holds-then (Found bytes) (commandByte 0x0F) (λ c. done s) at₆ rest₆ (command-sound 0x0F at₆ rest₆) (λ c at₇ rest₇ e₇.
-    unfold done in (asked-good good again, cc (bytes-before s rest₇)))))))
+    unfold done in (asked-good good may-ask, cc (bytes-before s rest₇)))))))
 
 -- ---- written
-
--- what is read after the coefficients, and after the degree
-abbrev afterCoefficients : ℕ → Poly → Reader Sheet
-afterCoefficients p f = do
-  run ← flag 0x04 14 (hasRun p f)
-  commandByte 0x0F
-  done (record { prime = p; poly = f; run = run })
-
-abbrev afterDegree : ℕ → ℕ → Reader Sheet
-afterDegree p n = do
-  f ← coefficients (suc n) p 0 (monomial n)
-  afterCoefficients p f
 
 head-complete : (s : Sheet) → GoodSheet s → (bytes : List ℕ)
     → let n : ℕ = degree (s .poly) in sheet 0 (0x01 ∷ s .prime ∷ 0x02 ∷ n ∷ bytes) ≡ afterDegree (s .prime) n 4 bytes
@@ -90,7 +79,7 @@ last-complete : (s : Sheet) → GoodSheet s → (at : ℕ) (rest : List ℕ)
 unfolding done
 last-complete s g at rest =
     let allowed : Bool = hasRun (s .prime) (s .poly) in
-    then-goes (flag 0x04 14 allowed) _ (flag-goes 0x04 14 allowed (s .run) at (0x0F ∷ rest) (g .again) (λ e. omega arith))
+    then-goes (flag 0x04 14 allowed) _ (flag-goes 0x04 14 allowed (s .run) at (0x0F ∷ rest) (g .mayAsk) (λ e. omega arith))
     ∙ then-goes (commandByte 0x0F) _ (command-goes 0x0F (at + length (askedBytes (s .run))) rest)
 
 -- what follows the coefficients begins with none
@@ -109,7 +98,7 @@ sheet-complete s g rest =
     sheet 0 (sheetBytes s ++ rest) ≡⟨ ap (sheet 0) (bytes-before s rest) ⟩
     sheet 0 (0x01 ∷ p ∷ 0x02 ∷ n ∷ (coefs ++ last)) ≡⟨ head-complete s g (coefs ++ last) ⟩
     afterDegree p n 4 (coefs ++ last)
-    ≡⟨ then-goes (coefficients (suc n) p 0 (monomial n)) _ (coefficients-complete s g 4 last (last-other s rest)) ⟩
+    ≡⟨ then-goes (allCoefficients p n) _ (coefficients-complete s g 4 last (last-other s rest)) ⟩
     afterCoefficients p (s .poly) (4 + length coefs) last ≡⟨ last-complete s g (4 + length coefs) rest ⟩
     got s (suc (4 + length coefs + length (askedBytes (s .run)))) rest ≡⟨ ap (λ (k : ℕ). got s k rest) (length-sheet s) ⟩
     got s (length (sheetBytes s)) rest ∎

@@ -1,41 +1,20 @@
--- The stages of a sheet's reading, and what is left to read after each.
+-- From stage to stage of a sheet's reading: `LeftOf`, what is left to read at a place.
 -- Proves how it begins, that the fault of a step is the answer's, what is read at the end, and that a step in a part is one of the sheet. Assumes nothing.
 use mathlib.Core.Path.{_≡_, refl, sym, _∙_, ap, ap₂, subst}
-use mathlib.Core.Bool.{Bool}
 use mathlib.Core.List.{List}
 use Prim.Native.Nat.{ℕ, _+_, _-_, _≤_, _<_, zero-le}
 use native.Mathlib.Nat.{zero-add}
 use native.Mathlib.Omega.{arith}
 use lib.ListN.{length, take, drop, length-drop, drop-of-length-le}
 use lib.Seq.{take-all, drop-cons, drop-drop}
-use Rattle.specification.specs.Polynomials.{Poly}
-use Rattle.specification.specs.Reading.{Read, got, Reader, _>>=_, done, commandByte, withOperand, flag}
-use Rattle.specification.specs.RunLength.{hasRun}
+use Rattle.specification.specs.Reading.{Read, got, Reader, _>>=_, done, withOperand}
 use Rattle.specification.specs.Sheets as spec
 use Rattle.sheet_reader.specs.declared.SheetRead.{SheetRead}
 use Rattle.sheet_reader.specs.declared.Step.{Step}
 use Rattle.sheet_reader.specs.declared.Step.the-variants.{Taken, Fault}
 use Rattle.sheet_reader.specs.AsSheetRead.{sheetRead, refusal}
 use Rattle.sheet_reader.specs.Steps.{asRead, StepAs, StepInside, Left, left-stops}
-use Rattle.sheet_reader.specs.Underway.{allCoefficients}
-
--- ---- what is left to read after each stage
-
--- the sheet says s, and only the end command is due
-abbrev pub onlyEnd : spec.Sheet → Reader spec.Sheet
-onlyEnd s = _>>=_ (commandByte 0x0F) (λ c. done s)
-
-abbrev pub afterRun : ℕ → Poly → Bool → Reader spec.Sheet
-afterRun p f run = onlyEnd (record { prime = p; poly = f; run = run })
-
-abbrev pub afterCoefficients : ℕ → Poly → Reader spec.Sheet
-afterCoefficients p f = _>>=_ (flag 0x04 14 (hasRun p f)) (afterRun p f)
-
-abbrev pub afterDegree : ℕ → ℕ → Reader spec.Sheet
-afterDegree p n = _>>=_ (allCoefficients p n) (afterCoefficients p)
-
-abbrev pub afterPrime : ℕ → Reader spec.Sheet
-afterPrime p = _>>=_ (withOperand 0x02 spec.degreeOperand) (afterDegree p)
+use Rattle.layouts.specs.SheetStages.{afterPrime, sheet-stages}
 
 -- ---- from stage to stage
 
@@ -44,7 +23,7 @@ abbrev pub LeftOf : Read spec.Sheet → List ℕ → Reader spec.Sheet → ℕ �
 LeftOf reading bytes = Left reading bytes 0
 
 pub left-first : (bytes : List ℕ) → LeftOf (spec.sheet 0 bytes) bytes (_>>=_ (withOperand 0x01 spec.primeOperand) afterPrime) 0
-left-first bytes = record { reach = zero-le; same = unfold spec.sheet in refl }
+left-first bytes = record { reach = zero-le; same = ap (λ (r : Reader spec.Sheet). r 0 bytes) sheet-stages }
 
 -- a step's fault is handed back
 pub left-refused : {A : Type 0} (f : A → Reader spec.Sheet) {reading : Read spec.Sheet} {bytes : List ℕ} {at limit : ℕ} {meant : ℕ → A} {r : Reader A}

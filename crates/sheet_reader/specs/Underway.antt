@@ -8,7 +8,7 @@ use native.Mathlib.Numerals.{add-one}
 use native.Mathlib.Omega.{arith}
 use lib.ListN.{set, drop}
 use Rattle.specification.specs.Limits.{_²}
-use Rattle.specification.specs.Polynomials.{Poly, degree, monomial}
+use Rattle.specification.specs.Polynomials.{Poly, degree}
 use Rattle.specification.specs.Reading.{Read, Reader, _>>=_, commandByte}
 use Rattle.specification.specs.Coefficients.{coefficientCode, indexOperand, valueOperand, coefficients}
 use Rattle.arrays.specs.Listed.{listed, degree-listed, listed-set}
@@ -16,15 +16,12 @@ use Rattle.arrays.specs.Held.{Shaped, inside, shaped-set}
 use Rattle.arrays.specs.MonomialArray.{IsMonomial}
 use Rattle.layouts.specs.ReaderLaws.{then-goes, next-goes, command-goes, Other}
 use Rattle.layouts.specs.CoefficientsRead.{none-left}
+use Rattle.layouts.specs.SheetStages.{allCoefficients}
 use Rattle.layouts.specs.Operands.{index-within, index-exact}
 use Rattle.sheet_reader.specs.declared.Coefficients.{Coefficients}
 use Rattle.sheet_reader.specs.declared.Step.{Step}
 use Rattle.sheet_reader.specs.declared.Step.the-variants.{Taken, Fault}
 use Rattle.sheet_reader.specs.Steps.{readAt, StepAs, StepOf, Comes, step-good, step-fault, Left, left-more, left-stops}
-
--- the coefficients of a sheet with the prime p and the degree d
-abbrev pub allCoefficients : ℕ → ℕ → Reader Poly
-allCoefficients p d = coefficients (suc d) p 0 (monomial d)
 
 -- what the coefficient reader gives: the polynomial in the array, or the fault
 pub record CoefficientsOf (part : List ℕ) (start p d : ℕ) (r : Coefficients) : Type 0 where

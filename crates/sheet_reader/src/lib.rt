@@ -2,7 +2,7 @@
 // `read_sheet` takes any bytes. Each step's answer is a `Step`, and the first fault is handed back as it stands.
 ghost use mathlib.Core.Path.{_≡_};
 ghost use mathlib.Core.List.{[], _∷_};
-ghost use Prim.Native.Nat.{_+_, _*_, _<_, _≤_, _^_};
+ghost use Prim.Native.Nat.{_+_, _<_, _≤_, _^_};
 ghost use lib.ListN.{length};
 ghost use Rattle.specification.specs.Limits.{_²};
 ghost use Rattle.specification.specs.Reading.{byte, commandByte, withOperand};
@@ -10,11 +10,11 @@ ghost use Rattle.specification.specs.Coefficients.{indexOperand, valueOperand};
 ghost use Rattle.specification.specs.RunLength.{hasRun};
 ghost use Rattle.specification.specs.Sheets.{primeOperand, degreeOperand, whole, readSheet};
 ghost use Rattle.arrays.specs.Held.{Shaped};
+ghost use Rattle.layouts.specs.SheetStages.{onlyEnd};
 ghost use Rattle.commands.specs.AsSheet.{asSheet};
 ghost use Rattle.sheet_reader.specs.AsSheetRead.{sheetRead, refusal};
 ghost use Rattle.sheet_reader.specs.Steps.{readAt, StepOf, Comes, FlagOf};
 ghost use Rattle.sheet_reader.specs.Underway.{CoefficientsOf};
-ghost use Rattle.sheet_reader.specs.Stages.{onlyEnd};
 use arrays::Coefs;
 use arrays::monomial;
 use commands::Sheet;

@@ -33,7 +33,7 @@ pub record GoodSheet (s : Sheet) : Type 0 where
   pub monic : Monic (s .prime ²) (s .poly)
   pub fits : degree (s .poly) ≤ degreeLimit
   -- where the run is asked for: 14 is not its case
-  pub again : s .run ≡ true → T (hasRun (s .prime) (s .poly))
+  pub mayAsk : s .run ≡ true → T (hasRun (s .prime) (s .poly))
 
 -- the sheets taken are these, each written in one way: "so a polynomial has one sheet"
 abbrev pub SheetsTaken : Type 0

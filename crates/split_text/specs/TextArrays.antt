@@ -20,7 +20,7 @@ use Rattle.commands.specs.declared.Sheet.{Sheet}
 use Rattle.commands.specs.AsSheet.{asSheet}
 use Rattle.area.proofs.Turns.{Turns, each-turn}
 use Rattle.answer_writer.specs.declared.Totals.{Totals}
-use Rattle.answer_writer.specs.AnswerArrays.{asTotals, TotalsOf, runOf, run-asked}
+use Rattle.answer_writer.specs.AnswerArrays.{asTotals, TotalsOf, runOf, runOf-asked}
 use Rattle.lists.specs.FlatMaps.{flatMap-map}
 use Rattle.answer_writer.specs.Writable.{heldParts}
 
@@ -67,13 +67,13 @@ unfolding totalText
 totals-are t = refl
 
 -- a run that is asked for, and none
-pub run-is : (s : spec.Sheet) {r : ℕ} → r ≡ runOf s → s .run ≡ true → item "run " r ++ ascii "\n" ≡ runText s
+pub runText-asked : (s : spec.Sheet) {r : ℕ} → r ≡ runOf s → s .run ≡ true → item "run " r ++ ascii "\n" ≡ runText s
 unfolding runText
-run-is s h e = rw (e, h ∙ run-asked s e) refl
+runText-asked s h e = rw (e, h ∙ runOf-asked s e) refl
 
-pub no-run : (s : spec.Sheet) → s .run ≡ false → [] ≡ runText s
+pub runText-none : (s : spec.Sheet) → s .run ≡ false → [] ≡ runText s
 unfolding runText
-no-run s e = rw e refl
+runText-none s e = rw e refl
 
 pub lines-are : (s : Sheet) → length (s .coefs) ≡ 33 → s .degree ≤ 32 → (xs : List Part) {t : Totals} → TotalsOf (map asPart xs) t
     → headText (s .prime) (s .degree) ++ heldText xs ++ totalText (asTotals t) ++ runText (asSheet s) ≡ partsText (asSheet s) (map asPart xs)

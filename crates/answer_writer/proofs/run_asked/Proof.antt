@@ -2,7 +2,7 @@
 -- Assumes nothing.
 use mathlib.Core.Path.{refl, sym, _∙_}
 use borrow.Author.Needs.{needs}
-use Rattle.answer_writer.specs.AnswerArrays.{run-asked}
+use Rattle.answer_writer.specs.AnswerArrays.{runOf-asked}
 use Rattle.answer_writer.proofs.run_asked.Statement.{statement}
 use Rattle.answer_writer.proofs.run_asked.Tie as tie
 
@@ -11,6 +11,6 @@ run-asked-spec =
     tie.close
     (tie.spec
     (λ c. search needs)  -- cast-run-length
-    (λ c κs. let asked = c .before .before in (asked .before .pre .monic, asked .before .pre .again (asked .if1 .taken)))  -- run-length-requires
-    (λ c. c .run-length .ensures ∙ sym (run-asked _ (c .before .before .before .if1 .taken)))  -- returns
+    (λ c κs. let asked = c .before .before in (asked .before .pre .monic, asked .before .pre .mayAsk (asked .if1 .taken)))  -- run-length-requires
+    (λ c. c .run-length .ensures ∙ sym (runOf-asked _ (c .before .before .before .if1 .taken)))  -- returns
     (λ c. rw (c .if1 .left) refl))  -- returns-2

@@ -16,12 +16,8 @@ use Rattle.layouts.specs.Operands.{prime-exact}
 use Rattle.commands.specs.AsSheet.{constant-decides}
 use Rattle.sheet_reader.specs.AsSheetRead.{sheetRead}
 use Rattle.sheet_reader.specs.Steps.{StepAs, FlagOf, step-inside, step-good, left-more}
-use Rattle.sheet_reader.specs.Underway.{allCoefficients}
+use Rattle.layouts.specs.SheetStages.{allCoefficients, afterPrime, afterDegree, afterCoefficients, afterRun}
 use Rattle.sheet_reader.specs.Stages.{
-  afterPrime,
-  afterDegree,
-  afterRun,
-  afterCoefficients,
   LeftOf,
   left-first,
   left-refused,

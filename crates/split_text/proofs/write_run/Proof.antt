@@ -5,7 +5,7 @@ use native.Mathlib.Omega.{arith}
 use borrow.Author.Needs.{needs}
 use Rattle.specification.specs.Text.{ascii, item}
 use Rattle.area.specs.Wrote.{Room, wrote-none, wrote-more, wrote-as, room-as, room-first, room-byte}
-use Rattle.split_text.specs.TextArrays.{run-is, no-run}
+use Rattle.split_text.specs.TextArrays.{runText-asked, runText-none}
 use Rattle.split_text.proofs.write_run.Statement.{statement}
 use Rattle.split_text.proofs.write_run.Tie as tie
 
@@ -14,7 +14,7 @@ start c = c .before .before
 
 -- a run is asked for
 room : (c : tie.Then1) → let a = start c .args in Room (a .out .now) (a .at) (item "run " (a .run) ++ ascii "\n")
-room c = let (run, room) = start c .pre in room-as (run-is _ run (c .if1 .taken)) room
+room c = let (run, room) = start c .pre in room-as (runText-asked _ run (c .if1 .taken)) room
 
 pub write-run-spec : {M : Type 1} → statement M
 write-run-spec =
@@ -27,5 +27,5 @@ write-run-spec =
     (λ c.
     let n = c .before .before .before .before .before .before in
     let asked = n .before .before .before in
-    wrote-as (run-is _ (start asked .pre .0) (asked .if1 .taken)) (wrote-more (n .write-item .ensures) (c .before .before .put .ensures)))  -- returns
-    (λ c. wrote-as (no-run _ (c .if1 .left)) (wrote-none _ _ (omega (arith, c .before .before .pre .1 .fits)))))  -- returns-2
+    wrote-as (runText-asked _ (start asked .pre .0) (asked .if1 .taken)) (wrote-more (n .write-item .ensures) (c .before .before .put .ensures)))  -- returns
+    (λ c. wrote-as (runText-none _ (c .if1 .left)) (wrote-none _ _ (omega (arith, c .before .before .pre .1 .fits)))))  -- returns-2
