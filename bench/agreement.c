@@ -1,7 +1,9 @@
-/* Compares an answer's parts with what FLINT finds modulo p. */
+/* Compares an answer's parts with what FLINT finds modulo p, and a copy with the answer. */
+#include <string.h>
+
 #include "bench.h"
 
-enum { PART = 0x11, FACTOR = 0x12, COEFFICIENT = 0x03, SOLID = 2 };
+enum { PART = 0x11, FACTOR = 0x12, COEFFICIENT = 0x03, END = 0x0F, SOLID = 2 };
 
 void make_bar(nmod_poly_t bar, const polynomial *f)
 {
@@ -62,4 +64,26 @@ int agrees(const polynomial *f, const uint8_t *answer, size_t length)
     nmod_poly_factor_clear(factors);
     nmod_poly_clear(bar);
     return all;
+}
+
+/* How many factors of each degree and times an answer has. */
+static void count_pairs(const uint8_t *answer, size_t length, unsigned pairs[DEGREE + 1][DEGREE + 1])
+{
+    for (size_t place = 0; place < length; place += command_length(answer[place]))
+        if (answer[place] == FACTOR)
+            pairs[answer[place + 1]][answer[place + 2]]++;
+}
+
+int copy_agrees(const polynomial *f, const uint8_t *copy, size_t length)
+{
+    uint8_t answer[KUZHMADER_AREA];
+    unsigned pairs[DEGREE + 1][DEGREE + 1] = {0};
+    size_t at = 4;
+    count_pairs(answer, kuzhmader_split(f->sheet, f->sheet_length, answer, KUZHMADER_AREA).count, pairs);
+    for (unsigned degree = 1; degree <= DEGREE; degree++)
+        for (unsigned times = 1; times <= DEGREE; times++)
+            for (; pairs[degree][times] > 0; pairs[degree][times]--, at += 3)
+                if (at + 3 >= length || copy[at] != FACTOR || copy[at + 1] != degree || copy[at + 2] != times)
+                    return 0;
+    return memcmp(copy, answer, 4) == 0 && at + 1 == length && copy[at] == END;
 }

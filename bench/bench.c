@@ -1,7 +1,8 @@
 /* Times `kuzhmader_split` (the whole answer, from bytes to bytes) and FLINT's `nmod_poly_factor` (of the bar, modulo p) in one process on
  * the same polynomials of degree 32. A polynomial's time is the best of five rounds of repeated calls; a line has the medians over a kind.
- * Then the random ones, without 0x04 and with it, and a plain walk to the run length, which is above 65,535 for nearly all of them.
- * Ends with status 1 if an answer disagrees with FLINT or a run length with the walk, or if 64 KiB of stack are not enough. */
+ * Then `kuzhmader_copy` beside `kuzhmader_split` on the same ones; then the random ones, without 0x04 and with it, and a plain walk to the run
+ * length, which is above 65,535 for nearly all of them.
+ * Ends with status 1 if an answer disagrees with FLINT, a copy with the answer or a run length with the walk, or if 64 KiB of stack are not enough. */
 #include <inttypes.h>
 #include <stdio.h>
 #include <stdlib.h>
@@ -22,13 +23,23 @@ static double now(void)
 }
 
 /* Nanoseconds for some calls of the library. */
-static double split_calls(const polynomial *f, int calls)
+static double library_calls(kuzhmader_call *call, const polynomial *f, int calls)
 {
     static uint8_t area[KUZHMADER_AREA];
     double start = now();
     for (int i = 0; i < calls; i++)
-        kuzhmader_split(f->sheet, f->sheet_length, area, KUZHMADER_AREA);
+        call(f->sheet, f->sheet_length, area, KUZHMADER_AREA);
     return now() - start;
+}
+
+static double split_calls(const polynomial *f, int calls)
+{
+    return library_calls(kuzhmader_split, f, calls);
+}
+
+static double copy_calls(const polynomial *f, int calls)
+{
+    return library_calls(kuzhmader_copy, f, calls);
 }
 
 /* Nanoseconds for some calls of FLINT; bar and factor structs are made before the clock starts and cleared after it stops. */
@@ -94,17 +105,26 @@ static double median(double *times)
     return (times[EACH / 2 - 1] + times[EACH / 2]) / 2;
 }
 
-static void time_kind(unsigned p, unsigned kind)
+/* Two calls of any sort on the polynomials of a kind, in turn. */
+static void time_kind(unsigned p, unsigned kind, double (*calls)(const polynomial *, int), double (*beside)(const polynomial *, int))
 {
-    static double library[EACH], flint[EACH];
+    static double first[EACH], second[EACH];
     for (int i = 0; i < EACH; i++) {
-        library[i] = timed(split_calls, &polynomials[p][kind][i]);
-        flint[i] = timed(flint_calls, &polynomials[p][kind][i]);
+        first[i] = timed(calls, &polynomials[p][kind][i]);
+        second[i] = timed(beside, &polynomials[p][kind][i]);
     }
-    double ours = median(library), theirs = median(flint);
-    printf("%5u  %-8s %12.1f %12.1f %8.2f   (slowest %.1f and %.1f)\n", primes[p], kinds[kind], ours, theirs, ours / theirs,
-           library[EACH - 1], flint[EACH - 1]);
+    double one = median(first), other = median(second);
+    printf("%5u  %-8s %12.1f %12.1f %8.2f   (slowest %.1f and %.1f)\n", primes[p], kinds[kind], one, other, one / other,
+           first[EACH - 1], second[EACH - 1]);
     fflush(stdout);
+}
+
+static void time_kinds(const char *names, double (*calls)(const polynomial *, int), double (*beside)(const polynomial *, int))
+{
+    printf("prime  kind  %s    ratio   medians of %d polynomials of degree %d\n", names, EACH, DEGREE);
+    for (unsigned p = 0; p < PRIMES; p++)
+        for (unsigned kind = 0; kind < KINDS; kind++)
+            time_kind(p, kind, calls, beside);
 }
 
 /* What 0x04 costs: medians of a split without it and with it, of what the second takes more, and of the walks. */
@@ -126,14 +146,14 @@ static void time_runs(unsigned p)
     fflush(stdout);
 }
 
-/* How many of the answers agree; the checksum of their bytes (FNV-1a) tells two builds apart. */
-static int compared(const polynomial *f, int count, int (*good)(const polynomial *, const uint8_t *, size_t), uint64_t *checksum)
+/* How many of the answers or copies agree; the checksum of their bytes (FNV-1a) tells two builds apart. */
+static int compared(kuzhmader_call *call, const polynomial *f, int count, int (*good)(const polynomial *, const uint8_t *, size_t), uint64_t *checksum)
 {
     uint8_t area[KUZHMADER_AREA];
     int agreed = 0;
     *checksum = 0xCBF29CE484222325u;
     for (int i = 0; i < count; i++) {
-        kuzhmader_outcome outcome = kuzhmader_split(f[i].sheet, f[i].sheet_length, area, KUZHMADER_AREA);
+        kuzhmader_outcome outcome = call(f[i].sheet, f[i].sheet_length, area, KUZHMADER_AREA);
         for (size_t k = 0; k < outcome.count; k++)
             *checksum = (*checksum ^ area[k]) * 0x100000001B3u;
         agreed += outcome.number == KUZHMADER_DONE && good(f + i, area, outcome.count);
@@ -143,20 +163,20 @@ static int compared(const polynomial *f, int count, int (*good)(const polynomial
 
 int main(void)
 {
-    uint64_t checksum, of_runs;
+    uint64_t checksum, of_runs, of_copies;
     make_polynomials();
-    int agreed = compared(&polynomials[0][0][0], PRIMES * KINDS * EACH, agrees, &checksum);
-    int runs = compared(&with_run[0][0], PRIMES * EACH, run_agrees, &of_runs);
+    int agreed = compared(kuzhmader_split, &polynomials[0][0][0], PRIMES * KINDS * EACH, agrees, &checksum);
+    int runs = compared(kuzhmader_split, &with_run[0][0], PRIMES * EACH, run_agrees, &of_runs);
+    int copies = compared(kuzhmader_copy, &polynomials[0][0][0], PRIMES * KINDS * EACH, copy_agrees, &of_copies);
     printf("parts that agree with FLINT %s: %d of %d, checksum of the answers %016" PRIx64 "\n", FLINT_VERSION, agreed, PRIMES * KINDS * EACH, checksum);
     printf("run lengths that agree with a walk: %d of %d, checksum of the answers %016" PRIx64 "\n", runs, PRIMES * EACH, of_runs);
-    printf("prime  kind      library µs     FLINT µs    ratio   medians of %d polynomials of degree %d\n", EACH, DEGREE);
-    for (unsigned p = 0; p < PRIMES; p++)
-        for (unsigned kind = 0; kind < KINDS; kind++)
-            time_kind(p, kind);
+    printf("copies that agree with the answers: %d of %d, checksum of the copies %016" PRIx64 "\n", copies, PRIMES * KINDS * EACH, of_copies);
+    time_kinds("    library µs     FLINT µs", split_calls, flint_calls);
+    time_kinds("       copy µs     split µs", copy_calls, split_calls);
     printf("prime  without 04 µs   with 04 µs       run µs      walk µs     table µs   medians of %d random polynomials of degree %d\n", EACH, DEGREE);
     for (unsigned p = 0; p < PRIMES; p++)
         time_runs(p);
-    size_t used = stack_used();
-    printf("stack touched by split and read: %zu bytes, limit %d\n", used, STACK_LIMIT);
-    return agreed != PRIMES * KINDS * EACH || runs != PRIMES * EACH || used >= STACK_LIMIT;
+    size_t used = stack_of_answers(), by_copy = stack_of_copies();
+    printf("stack touched by split and read: %zu bytes, by copy: %zu, limit %d\n", used, by_copy, STACK_LIMIT);
+    return agreed != PRIMES * KINDS * EACH || runs != PRIMES * EACH || copies != PRIMES * KINDS * EACH || used >= STACK_LIMIT || by_copy >= STACK_LIMIT;
 }

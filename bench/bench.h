@@ -1,4 +1,4 @@
-/* What the files of the benchmark share: the polynomials, the comparisons with FLINT and with a walk, the stack. */
+/* What the files of the benchmark share: the polynomials, the comparisons with FLINT, with the answers and with a walk, the stack. */
 #ifndef BENCH_H
 #define BENCH_H
 
@@ -36,6 +36,9 @@ void make_bar(nmod_poly_t bar, const polynomial *f);
 /* Whether an answer's parts are the powers of irreducible polynomials that FLINT finds in the bar. */
 int agrees(const polynomial *f, const uint8_t *answer, size_t length);
 
+/* Whether a copy has the degrees and times of the answer's factors, sorted. */
+int copy_agrees(const polynomial *f, const uint8_t *copy, size_t length);
+
 /* The run length of f, by a walk of at most RUN_LIMIT pulses; 0 if it is longer. The second takes its multiples of f from a table, and adds bytes. */
 unsigned plain_walk(const polynomial *f);
 unsigned table_walk(const polynomial *f);
@@ -43,7 +46,8 @@ unsigned table_walk(const polynomial *f);
 /* Whether an answer's run length is that of a walk. */
 int run_agrees(const polynomial *f, const uint8_t *answer, size_t length);
 
-/* Bytes of stack that splitting all polynomials, with 0x04 too, and reading all answers, touches at most. */
-size_t stack_used(void);
+/* Bytes of stack that splitting all polynomials, with 0x04 too, and reading all answers, touches at most; and copying them. */
+size_t stack_of_answers(void);
+size_t stack_of_copies(void);
 
 #endif

@@ -21,7 +21,13 @@ static void split_and_read(const polynomial *f, size_t count)
     }
 }
 
-static void *split_all(void *argument)
+static void copy_each(const polynomial *f, size_t count)
+{
+    for (size_t i = 0; i < count; i++)
+        kuzhmader_copy(f[i].sheet, f[i].sheet_length, answers[0], KUZHMADER_AREA);
+}
+
+static void *answer_all(void *argument)
 {
     uint8_t here;
     caller = (uintptr_t)&here;
@@ -30,8 +36,17 @@ static void *split_all(void *argument)
     return argument;
 }
 
+static void *copy_all(void *argument)
+{
+    uint8_t here;
+    caller = (uintptr_t)&here;
+    copy_each(&polynomials[0][0][0], PRIMES * KINDS * EACH);
+    copy_each(&with_run[0][0], PRIMES * EACH);
+    return argument;
+}
+
 /* The stack grows down: what is not painted any more, from the lowest changed byte up to the caller's frame. */
-size_t stack_used(void)
+static size_t touched(void *(*calls)(void *))
 {
     pthread_t thread;
     pthread_attr_t attributes;
@@ -41,7 +56,7 @@ size_t stack_used(void)
         abort();
     memset(stack, PAINT, STACK);
     pthread_attr_init(&attributes);
-    if (pthread_attr_setstack(&attributes, stack, STACK) != 0 || pthread_create(&thread, &attributes, split_all, NULL) != 0)
+    if (pthread_attr_setstack(&attributes, stack, STACK) != 0 || pthread_create(&thread, &attributes, calls, NULL) != 0)
         abort();
     pthread_join(thread, NULL);
     while (untouched < STACK && stack[untouched] == PAINT)
@@ -50,4 +65,14 @@ size_t stack_used(void)
     pthread_attr_destroy(&attributes);
     free(stack);
     return used;
+}
+
+size_t stack_of_answers(void)
+{
+    return touched(answer_all);
+}
+
+size_t stack_of_copies(void)
+{
+    return touched(copy_all);
 }

@@ -4,10 +4,11 @@
  * Rules for all calls:
  * - The first two arguments are lent to be read and are never changed. The last two are the answer area.
  * - The two areas must not overlap, not in one byte; nobody else may write to either while the call runs.
- * - A pointer must not be null, not even with length 0: `kuzhmader_split_nullable` and `kuzhmader_read_nullable`, below, take that away. A length is
- *   that of memory which really is there, and at most PTRDIFF_MAX.
+ * - A pointer must not be null, not even with length 0: `kuzhmader_split_nullable`, `kuzhmader_read_nullable` and `kuzhmader_copy_nullable`, below, take
+ *   that away. A length is that of memory which really is there, and at most PTRDIFF_MAX.
  * - On success `number` is KUZHMADER_DONE, `place` is 0, and the first `count` bytes of the area are the result. On a refusal `number` says
- *   why, `place` says where in the input (counted from 0), and `count` is 0. Bytes of the area from `count` on keep their values.
+ *   why, `place` says where in the input (counted from 0), and `count` is 0. Bytes of the area from `count` on keep their values. The place of a
+ *   refused copy is always 0.
  * - The calls keep nothing between them, take no memory from the heap, and may run in several threads at once.
  */
 #ifndef KUZHMADER_H
@@ -24,7 +25,8 @@ extern "C" {
 #define KUZHMADER_AREA 384
 #define KUZHMADER_LIMIT 32
 
-/* The numbers of documents 01 and 02. `kuzhmader_split` gives 0 to 8 and 14, `kuzhmader_read` gives 0, 1 and 9; 10 to 13 belong to the arithmetic. */
+/* The numbers of documents 01 and 02. `kuzhmader_split` and `kuzhmader_copy` give 0 to 8 and 14, the same one for the same sheet and area;
+ * `kuzhmader_read` gives 0, 1 and 9; 10 to 13 belong to the arithmetic. The places are those of `kuzhmader_split`. */
 enum kuzhmader_number {
     KUZHMADER_DONE = 0,
     KUZHMADER_AREA_TOO_SHORT = 1,     /* the answer area is shorter than KUZHMADER_AREA; place 0 */
@@ -56,27 +58,43 @@ kuzhmader_outcome kuzhmader_split(const uint8_t *sheet, size_t sheet_length, uin
 /* From an answer back to its sheet, with 0x04 if the answer has 0x14. */
 kuzhmader_outcome kuzhmader_read(const uint8_t *answer, size_t answer_length, uint8_t *area, size_t area_length);
 
-/* The same two calls where a pointer may be null if its length is 0, as C has it for no bytes: a byte is then lent in its place, which is
- * neither read nor written. So an empty sheet is 2 at 0, and no area is 1. Null with another length is the caller's fault, as elsewhere in C.
- * The two above are the ones that are proved, and other languages link them, so they keep their names; from C and C++ call these. */
-static inline kuzhmader_outcome kuzhmader_split_nullable(const uint8_t *sheet, size_t sheet_length, uint8_t *area, size_t area_length)
+/* From a sheet to the copy that purchasing may see: 0x01 with the prime, 0x02 with the degree, a 0x12 with degree and times for each factor of the
+ * answer, sorted by degree and then by times, lower first, and 0x0F. No coefficient, no verdict and no order of the parts is written. A sheet that
+ * `kuzhmader_split` refuses is refused with the same number, at place 0. So two sheets alike in those figures, or refused with one number, give the
+ * same three fields and write the same bytes. What follows from the figures is shown with them: modulo 4 only x⁴ + 2x³ + x² has two different
+ * factors of degree 1, each twice; and 14 says that 0x04 is there and p divides the constant coefficient. Nothing is promised of the time, which is
+ * that of the split and depends on the sheet, of the padding between the fields, or of what the call leaves on the stack. */
+kuzhmader_outcome kuzhmader_copy(const uint8_t *sheet, size_t sheet_length, uint8_t *area, size_t area_length);
+
+/* What the three have in common, and what the three below share: a call with a byte lent where null stands for no bytes. */
+typedef kuzhmader_outcome kuzhmader_call(const uint8_t *bytes, size_t length, uint8_t *area, size_t area_length);
+
+static inline kuzhmader_outcome kuzhmader_lend(kuzhmader_call *call, const uint8_t *bytes, size_t length, uint8_t *area, size_t area_length)
 {
     uint8_t lent[2] = {0, 0};
-    if (sheet == NULL && sheet_length == 0)
-        sheet = &lent[0];
+    if (bytes == NULL && length == 0)
+        bytes = &lent[0];
     if (area == NULL && area_length == 0)
         area = &lent[1];
-    return kuzhmader_split(sheet, sheet_length, area, area_length);
+    return call(bytes, length, area, area_length);
+}
+
+/* The same three calls where a pointer may be null if its length is 0, as C has it for no bytes: a byte is then lent in its place, which is
+ * neither read nor written. So an empty sheet is 2 at 0, and no area is 1. Null with another length is the caller's fault, as elsewhere in C.
+ * The three above are the ones that are proved, and other languages link them, so they keep their names; from C and C++ call these. */
+static inline kuzhmader_outcome kuzhmader_split_nullable(const uint8_t *sheet, size_t sheet_length, uint8_t *area, size_t area_length)
+{
+    return kuzhmader_lend(kuzhmader_split, sheet, sheet_length, area, area_length);
 }
 
 static inline kuzhmader_outcome kuzhmader_read_nullable(const uint8_t *answer, size_t answer_length, uint8_t *area, size_t area_length)
 {
-    uint8_t lent[2] = {0, 0};
-    if (answer == NULL && answer_length == 0)
-        answer = &lent[0];
-    if (area == NULL && area_length == 0)
-        area = &lent[1];
-    return kuzhmader_read(answer, answer_length, area, area_length);
+    return kuzhmader_lend(kuzhmader_read, answer, answer_length, area, area_length);
+}
+
+static inline kuzhmader_outcome kuzhmader_copy_nullable(const uint8_t *sheet, size_t sheet_length, uint8_t *area, size_t area_length)
+{
+    return kuzhmader_lend(kuzhmader_copy, sheet, sheet_length, area, area_length);
 }
 
 #ifdef __cplusplus

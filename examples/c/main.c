@@ -1,5 +1,5 @@
-/* Splits document 01's example, x³ + 6x² + 4 modulo 9, and asks for its run length; prints the answer as the program `split` does, and reads the
- * answer back. */
+/* Splits document 01's example, x³ + 6x² + 4 modulo 9, and asks for its run length; prints the answer as the program `split` does, reads the answer
+ * back, and prints the bytes of the copy that purchasing may see. */
 #include <stdio.h>
 #include <string.h>
 
@@ -38,9 +38,17 @@ static void print_answer(const uint8_t *at)
         printf("run %u\n", at[1] + 256u * at[2]);
 }
 
+static void print_copy(const uint8_t *copy, size_t count)
+{
+    printf("copy");
+    for (size_t i = 0; i < count; i++)
+        printf(" %02X", copy[i]);
+    printf("\n");
+}
+
 int main(void)
 {
-    uint8_t answer[KUZHMADER_AREA], back[KUZHMADER_AREA];
+    uint8_t answer[KUZHMADER_AREA], back[KUZHMADER_AREA], copy[KUZHMADER_AREA];
     kuzhmader_outcome split = kuzhmader_split_nullable(sheet, sizeof sheet, answer, sizeof answer);
     if (split.number != KUZHMADER_DONE) {
         printf("refused %u at %zu\n", split.number, split.place);
@@ -52,5 +60,11 @@ int main(void)
         printf("the answer does not lead back to the sheet\n");
         return 1;
     }
+    kuzhmader_outcome copied = kuzhmader_copy_nullable(sheet, sizeof sheet, copy, sizeof copy);
+    if (copied.number != KUZHMADER_DONE) {
+        printf("no copy: refused %u\n", copied.number);
+        return 1;
+    }
+    print_copy(copy, copied.count);
     return 0;
 }

@@ -1,6 +1,6 @@
-//! Splits document 01's example, x³ + 6x² + 4 modulo 9, and asks for its run length; prints the answer as the program `split` does, and reads the
-//! answer back.
-//! `split` and `read` here are safe: a slice is never null, and two slices of which one may be changed never overlap.
+//! Splits document 01's example, x³ + 6x² + 4 modulo 9, and asks for its run length; prints the answer as the program `split` does, reads the answer
+//! back, and prints the bytes of the copy that purchasing may see.
+//! `split`, `read` and `copy` here are safe: a slice is never null, and two slices of which one may be changed never overlap.
 
 /// Number, place and count, as in include/kuzhmader.h.
 #[repr(C)]
@@ -16,6 +16,7 @@ const AREA: usize = 384;
 extern "C" {
     fn kuzhmader_split(sheet: *const u8, sheet_length: usize, area: *mut u8, area_length: usize) -> Outcome;
     fn kuzhmader_read(answer: *const u8, answer_length: usize, area: *mut u8, area_length: usize) -> Outcome;
+    fn kuzhmader_copy(sheet: *const u8, sheet_length: usize, area: *mut u8, area_length: usize) -> Outcome;
 }
 
 /// From a sheet to its answer.
@@ -26,6 +27,11 @@ fn split(sheet: &[u8], area: &mut [u8]) -> Outcome {
 /// From an answer back to its sheet.
 fn read(answer: &[u8], area: &mut [u8]) -> Outcome {
     unsafe { kuzhmader_read(answer.as_ptr(), answer.len(), area.as_mut_ptr(), area.len()) }
+}
+
+/// From a sheet to the copy that purchasing may see.
+fn copy(sheet: &[u8], area: &mut [u8]) -> Outcome {
+    unsafe { kuzhmader_copy(sheet.as_ptr(), sheet.len(), area.as_mut_ptr(), area.len()) }
 }
 
 const SHEET: [u8; 12] = [0x01, 3, 0x02, 3, 0x03, 0, 4, 0x03, 2, 6, 0x04, 0x0F];
@@ -61,11 +67,19 @@ fn print_answer(answer: &[u8]) {
     }
 }
 
+fn print_copy(bytes: &[u8]) {
+    let listed: String = bytes.iter().map(|b| format!(" {b:02X}")).collect();
+    println!("copy{listed}");
+}
+
 fn main() {
-    let (mut answer, mut back) = ([0; AREA], [0; AREA]);
+    let (mut answer, mut back, mut shown) = ([0; AREA], [0; AREA], [0; AREA]);
     let outcome = split(&SHEET, &mut answer);
     assert_eq!((outcome.number, outcome.place), (0, 0), "the sheet is refused");
     print_answer(&answer[..outcome.count]);
     let outcome = read(&answer[..outcome.count], &mut back);
     assert_eq!(&back[..outcome.count], &SHEET, "the answer does not lead back to the sheet");
+    let outcome = copy(&SHEET, &mut shown);
+    assert_eq!(outcome.number, 0, "there is no copy");
+    print_copy(&shown[..outcome.count]);
 }

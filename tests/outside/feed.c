@@ -1,13 +1,15 @@
 /* Makes the calls that standard input holds and writes their outcomes to standard output.
  *
- * A call is a byte, 0 for kuzhmader_split and 1 for kuzhmader_read, then the length of the input and that of the area, two bytes each, low
- * byte first, then the input. An outcome is the number, place and count in two bytes each, a byte that is 1 if the call changed its input
+ * A call is a byte, 0 for kuzhmader_split, 1 for kuzhmader_read and 2 for kuzhmader_copy, then the length of the input and that of the area, two
+ * bytes each, low byte first, then the input. An outcome is the number, place and count in two bytes each, a byte that is 1 if the call changed its input
  * or a byte of the area past the count, and the bytes written. */
 #include <stdio.h>
 #include <stdlib.h>
 #include <string.h>
 
 #include "kuzhmader.h"
+
+static kuzhmader_call *const calls[] = {kuzhmader_split, kuzhmader_read, kuzhmader_copy};
 
 static uint8_t paint(size_t place)
 {
@@ -38,13 +40,13 @@ static int area_changed(const uint8_t *area, size_t from, size_t length)
 }
 
 /* One call, with the length of the input, that of the area and the input in `bytes`. */
-static void make_call(int read, const uint8_t *bytes, size_t length, size_t room)
+static void make_call(kuzhmader_call *call, const uint8_t *bytes, size_t length, size_t room)
 {
     uint8_t *input = block(length), *area = block(room);
     memcpy(input, bytes, length);
     for (size_t i = 0; i < room; i++)
         area[i] = paint(i);
-    kuzhmader_outcome outcome = read ? kuzhmader_read(input, length, area, room) : kuzhmader_split(input, length, area, room);
+    kuzhmader_outcome outcome = call(input, length, area, room);
     put_number(outcome.number);
     put_number(outcome.place);
     put_number(outcome.count);
@@ -59,9 +61,9 @@ int main(void)
     static uint8_t head[5], bytes[65536];
     while (fread(head, 1, sizeof head, stdin) == sizeof head) {
         size_t length = head[1] + 256u * head[2], room = head[3] + 256u * head[4];
-        if (fread(bytes, 1, length, stdin) != length)
+        if (head[0] >= sizeof calls / sizeof calls[0] || fread(bytes, 1, length, stdin) != length)
             return 1;
-        make_call(head[0], bytes, length, room);
+        make_call(calls[head[0]], bytes, length, room);
     }
     return 0;
 }

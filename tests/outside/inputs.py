@@ -1,4 +1,5 @@
-"""Inputs for the built library: good sheets and answers of all kinds, with 0x04 and 0x14 and without, damaged ones, and random bytes."""
+"""Inputs for the built library: good sheets and answers of all kinds, with 0x04 and 0x14 and without, damaged ones, random bytes, and sheets that are
+alike in all that a copy shows."""
 
 import random
 from typing import Iterator, NamedTuple, Sequence
@@ -6,6 +7,7 @@ from typing import Iterator, NamedTuple, Sequence
 from answers import RUN_LENGTH, answer_bytes
 from arithmetic import LIMIT, TAKEN_PRIMES
 from byte_strings import TELLING, damaged, some_bytes
+from known_figures import drawn_shapes, pairs_of, sheets_with
 from polynomial_cases import all_sheets, some_monic
 from sheet_cases import AREAS, Call, short_sheets
 from sheets import END, RUN, Refusal, Sheet, read_sheet, sheet_bytes
@@ -74,11 +76,12 @@ def picked(source: random.Random, kinds: Sequence[tuple]) -> bytes:
 
 
 def some_sheet(source: random.Random, pool: Pools) -> bytes:
-    """A string for the sheet reader: one in ten good, one in fifty near degree 32, the rest damaged and random."""
+    """A string for the sheet reader: one in ten good, one in fifty near degree 32, one in fifty far too long, the rest damaged and random."""
     kinds = (
         (10, lambda: source.choice(pool.sheets)),
         (2, lambda: damaged(source, source.choice(pool.full))),
-        (58, lambda: damaged(source, source.choice(pool.short))),
+        (2, lambda: source.choice(pool.full) + source.randbytes(source.randrange(1, 2000))),
+        (56, lambda: damaged(source, source.choice(pool.short))),
         (10, lambda: some_bytes(source, source.randrange(20), range(256))),
         (10, lambda: some_bytes(source, source.randrange(20), COMMANDS)),
         (10, lambda: headed(source, LIMIT, 20, (0, 1, 2, 3, 3, 3, 4, 15))),
@@ -106,9 +109,30 @@ def some_answer(source: random.Random, pool: Pools) -> bytes:
 
 
 def calls(source: random.Random, count: int) -> Iterator[tuple]:
-    """So many calls, each with whether it is one of the answer reader: three in ten are."""
+    """So many calls, each with its name: half are splits, three in ten are read, two in ten are copies."""
     pool = pools(source)
-    for _ in range(count):
-        reads = source.randrange(10) < 3
-        data = some_answer(source, pool) if reads else some_sheet(source, pool)
-        yield reads, Call(data, some_area(source))
+    for name in source.choices(("split", "read", "copy"), (5, 3, 2), k=count):
+        data = some_answer(source, pool) if name == "read" else some_sheet(source, pool)
+        yield name, Call(data, some_area(source))
+
+
+def number_of(data: bytes) -> int:
+    """The number of a sheet that is refused, and 0 for one that is not."""
+    try:
+        read_sheet(data)
+        return 0
+    except Refusal as refusal:
+        return refusal.number
+
+
+def alike(source: random.Random, count: int) -> Iterator[tuple]:
+    """So many sheets, each with what its copy may show: the figures that it was made for, four sheets to a list of pairs, or its number."""
+    pool, made = pools(source), 0
+    while made < count:
+        p = source.choice(TAKEN_PRIMES)
+        pairs = sorted(pairs_of(p, drawn_shapes(source, p)))
+        refused = [data for data in (some_sheet(source, pool) for _ in range(4)) if number_of(data)]
+        group = [((p, *pairs), sheet_bytes(sheet)) for sheet in sheets_with(source, p, pairs, 4)]
+        group += [(number_of(data), data) for data in refused]
+        yield from group[: count - made]
+        made += len(group)

@@ -77,6 +77,16 @@ def distinct_degree(p: int, f: list) -> list:
     return pairs + ([(f, degree(f))] if f != [1] else [])
 
 
+def is_irreducible(p: int, f: list) -> bool:
+    """The monic f has no factor in common with x^(p^d) − x for the d up to half its degree, so none of such a degree."""
+    frobenius = X
+    for _ in range(degree(f) // 2):
+        frobenius = p_th_power(p, frobenius, f)
+        if gcd(p, f, minus(p, frobenius, X)) != [1]:
+            return False
+    return True
+
+
 def trace(p: int, v: list, d: int, f: list) -> list:
     """v + v^p + .. + v^(p^(d−1)) modulo f. Modulo an irreducible factor of degree d it is one of the numbers 0 to p − 1."""
     total = v

@@ -8,7 +8,7 @@ import random
 from typing import Iterator, Optional
 
 from arithmetic import LIMIT
-from factoring import bar_factors
+from factoring import is_irreducible
 from polynomials import degree, divided, minus, plus, power, product_of, times, trimmed
 from run_lengths import X, power_modulo
 
@@ -45,7 +45,7 @@ def some_irreducible(p: int, d: int) -> tuple:
     source = random.Random("irreducible {} {}".format(p, d))
     while True:
         f = [source.randrange(p) for _ in range(d)] + [1]
-        if bar_factors(p, f) == [(f, 1)]:
+        if is_irreducible(p, f):
             return tuple(f)
 
 

@@ -1,12 +1,16 @@
-"""The two calls on bytes and the program `split` of documents 01 and 02.
+"""The three calls on bytes and the programs `split` and `copy` of documents 01 and 02.
 
-Run as a program it reads a sheet from standard input and prints the lines: python3 tests/reference/splitter.py < SHEET
+Run as a program it reads a sheet from standard input and prints the lines, or gives out the copy's bytes:
+
+    python3 tests/reference/splitter.py < SHEET
+    python3 tests/reference/splitter.py copy < SHEET
 """
 
 import sys
 from typing import NamedTuple
 
 from answers import answer_bytes, sheet_of_answer
+from copies import copy_bytes, figures_of
 from parts import WORDS, parts_of, totals_of
 from polynomials import degree
 from run_lengths import run_length
@@ -52,6 +56,16 @@ def read(answer: bytes, area: bytes) -> Outcome:
     return refused(area, 9, 0) if sheet is None else written(area, sheet_bytes(sheet))
 
 
+def copy(sheet: bytes, area: bytes) -> Outcome:
+    """From a sheet to its copy for purchasing. "A refused sheet shows its number with place 0 and writes nothing." """
+    if len(area) < AREA:
+        return refused(area, 1, 0)
+    try:
+        return written(area, copy_bytes(figures_of(read_sheet(sheet))))
+    except Refusal as refusal:
+        return refused(area, refusal.number, 0)
+
+
 def lines_of(sheet: Sheet) -> list:
     """The lines that `split` prints for an accepted sheet; "`run` and the number as its last line" where the sheet asks for it."""
     parts = parts_of(sheet.prime, sheet.polynomial)
@@ -71,5 +85,17 @@ def program(data: bytes) -> list:
         return ["refused {} at {}".format(refusal.number, refusal.place)]
 
 
+def copy_program(data: bytes) -> bytes:
+    """What `copy` gives out for these bytes of standard input: the copy's bytes, or the line of a refusal."""
+    try:
+        return copy_bytes(figures_of(read_sheet(data)))
+    except Refusal as refusal:
+        return b"refused %d at 0\n" % refusal.number
+
+
 if __name__ == "__main__":
-    print("\n".join(program(sys.stdin.buffer.read())))
+    given = sys.stdin.buffer.read()
+    if sys.argv[1:] == ["copy"]:
+        sys.stdout.buffer.write(copy_program(given))
+    else:
+        print("\n".join(program(given)))

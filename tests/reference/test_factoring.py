@@ -4,7 +4,7 @@ import random
 import unittest
 
 from brute_force import irreducibles, monics, monics_to
-from factoring import bar_factors
+from factoring import bar_factors, is_irreducible
 from lifting import primary_part
 from polynomials import degree, divided, power, product_of, reduced, times
 
@@ -24,6 +24,7 @@ class BarFactors(unittest.TestCase):
             for f in monics_to(p, top):
                 pairs = bar_factors(p, f)
                 self.assertEqual(product_of(p, [power(p, base, m) for base, m in pairs]), f)
+                self.assertEqual(is_irreducible(p, f), tuple(f) in known)
                 self.assertTrue(all(tuple(base) in known and m >= 1 for base, m in pairs))
                 keys = [order(base) for base, _ in pairs]
                 self.assertTrue(all(first < second for first, second in zip(keys, keys[1:])))

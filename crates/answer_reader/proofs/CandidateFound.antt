@@ -31,7 +31,7 @@ use Rattle.commands.specs.AsSheet.{constant-decides}
 use Rattle.part_list.proofs.ArrayPieces.{listed-monic}
 use Rattle.answer_reader.specs.declared.Candidate.{Candidate}
 use Rattle.answer_reader.specs.declared.Grown.{Grown}
-use Rattle.answer_reader.specs.CommandPlaces.{commandAt, operands-there, operand-at}
+use Rattle.layouts.specs.CommandPlaces.{commandAt, operands-there, operand-at}
 use Rattle.answer_reader.specs.FoundInBytes.{FoundAt, ProductOf, CandidateOf}
 use Rattle.answer_reader.proofs.Finding.{first-found, first-missing}
 use Rattle.answer_reader.proofs.AnswerFits.{commands-fit, degrees-fit, answer-product}

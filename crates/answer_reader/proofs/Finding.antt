@@ -16,7 +16,7 @@ use Rattle.specification.specs.Commands.{Command, command, operandCount, comman
 use Rattle.algebra.specs.Numbers.{lt-or-le}
 use Rattle.lists.specs.Members.{all-cons, all-append}
 use Rattle.layouts.specs.CommandsReadBack.{Without, PassesOver, firstWith-past, has-past}
-use Rattle.answer_reader.specs.CommandPlaces.{commandsFrom, commandAt, placeAfter, commands-step, commands-end}
+use Rattle.layouts.specs.CommandPlaces.{commandsFrom, commandAt, placeAfter, commands-step, commands-end}
 use Rattle.answer_reader.specs.FoundInBytes.{FoundAt}
 
 -- the first command has the code

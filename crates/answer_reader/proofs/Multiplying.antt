@@ -25,7 +25,7 @@ use Rattle.lists.specs.Members.{all-cons}
 use Rattle.layouts.specs.CommandsReadBack.{factors-past}
 use Rattle.answer_reader.specs.declared.Factor.{Factor}
 use Rattle.answer_reader.specs.declared.Grown.{Grown}
-use Rattle.answer_reader.specs.CommandPlaces.{commandsFrom, commandAt, placeAfter, commands-step, commands-end}
+use Rattle.layouts.specs.CommandPlaces.{commandsFrom, commandAt, placeAfter, commands-step, commands-end}
 use Rattle.answer_reader.specs.Fits.{Fits}
 use Rattle.lists.specs.Tests.{contrary}
 use Rattle.answer_reader.specs.FoundInBytes.{factorsFrom, productOf, FactorOf, GrownBy, MultipliedAt, ProductOf}

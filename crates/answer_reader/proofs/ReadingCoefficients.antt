@@ -21,7 +21,7 @@ use Rattle.arrays.specs.Held.{Held, leads-monic, held-set}
 use Rattle.arrays.specs.MonomialArray.{IsMonomial, monomial-leads, monomial-held}
 use Rattle.layouts.specs.CommandsReadBack.{NoCoefficient, written-none, written-more}
 use Rattle.answer_reader.specs.declared.Coefficient.{Coefficient}
-use Rattle.answer_reader.specs.CommandPlaces.{
+use Rattle.layouts.specs.CommandPlaces.{
   commandsFrom,
   operandsAt,
   commandAt,

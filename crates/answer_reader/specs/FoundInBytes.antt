@@ -27,7 +27,7 @@ use Rattle.answer_reader.specs.declared.Coefficient.{Coefficient}
 use Rattle.answer_reader.specs.declared.Coefficients.{Coefficients}
 use Rattle.answer_reader.specs.declared.Factor.{Factor}
 use Rattle.answer_reader.specs.declared.Grown.{Grown}
-use Rattle.answer_reader.specs.CommandPlaces.{commandsFrom, commandAt, placeAfter}
+use Rattle.layouts.specs.CommandPlaces.{commandsFrom, commandAt, placeAfter}
 use Rattle.answer_reader.specs.Fits.{CoefficientFits, CoefficientsFit, Fits}
 
 -- r is the place of the first command with a code, or the end: the commands before it have other codes

@@ -1,3 +1,2 @@
-pub mod CommandPlaces
 pub mod Fits
 pub mod FoundInBytes

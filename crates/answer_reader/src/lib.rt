@@ -13,7 +13,7 @@ ghost use Rattle.specification.specs.Coefficients.{coefficientCode, givenValue}
 ghost use Rattle.specification.specs.RunLength.{hasRun};
 ghost use Rattle.lists.specs.Decides.{Decides};
 ghost use Rattle.arrays.specs.Held.{MonicArray};
-ghost use Rattle.answer_reader.specs.CommandPlaces.{commandAt};
+ghost use Rattle.layouts.specs.CommandPlaces.{commandAt};
 ghost use Rattle.answer_reader.specs.FoundInBytes.{
   FoundAt,
   CoefficientOf,

@@ -81,6 +81,14 @@ wrote-from-start {old} {new} {bytes} w = (
   w .area ∙ ap (λ (k : ℕ). bytes ++ drop k old) (let e : 0 + length bytes ≡ length bytes = omega arith in e),
 )
 
+pub from-start-wrote : {old new : List ℕ} {bytes : List ℕ} {after : ℕ} → after ≡ length bytes → new ≡ bytes ++ drop (length bytes) old
+    → length bytes ≤ length old → Wrote old new 0 bytes after
+from-start-wrote {old} {new} {bytes} e a l = record {
+  area = a ∙ ap (λ (k : ℕ). bytes ++ drop k old) (let s : length bytes ≡ 0 + length bytes = omega arith in s);
+  place = omega (arith, e);
+  fits = omega (arith, e);
+}
+
 -- ---- room
 
 pub room-as : {area : List ℕ} {at : ℕ} {bytes named : List ℕ} → bytes ≡ named → Room area at named → Room area at bytes

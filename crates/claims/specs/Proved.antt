@@ -1,6 +1,6 @@
 -- The promises of documents 00, 01 and 02 about every accepted sheet, as the claims of `specification` state them.
 -- Proves term 3 of the answer's bytes and of a call, items 1 to 9, what is read off an answer, the degrees, the settings, the run length, the answer's
--- size and bytes, which sheets are taken, that inputs too long are refused, and the reader. Assumes nothing.
+-- size and bytes, which sheets are taken, that inputs too long are refused, the reader, and what copies are and show. Assumes nothing.
 use mathlib.Core.Path.{_≡_, refl, sym, _∙_, ap, subst}
 use mathlib.Core.Logic.{_↔_}
 use mathlib.Core.List.{List, [], _∷_}
@@ -27,6 +27,7 @@ use Rattle.specification.specs.ReaderClaims.{AnswerTo, ReaderExact, ReaderRefus
 use Rattle.specification.specs.SheetClaims.{AnswersFit, Fits, GoodSheet, LongInputs, SheetsTaken}
 use Rattle.specification.specs.Settings.{Settings}
 use Rattle.specification.specs.RunClaims.{Run, Runs, RunsShown, NoRun}
+use Rattle.specification.specs.CopyClaims.{Sorts, FiguresReadOff, copy, CopiesShow, CopiesFit, AlikeCopies, NothingElseSeen}
 use Rattle.algebra.specs.Numbers.{square-large}
 use Rattle.algebra.specs.Fields.{Prime, taken-prime}
 use Rattle.lists.specs.Members.{_∈_, All, all-map}
@@ -49,6 +50,11 @@ use Rattle.items.specs.LongestHolds.{longest, different-records, part-longest}
 use Rattle.runs.specs.NoRun as none
 use Rattle.runs.specs.RunsHold.{run-holds}
 use Rattle.settings.specs.SettingsCounted.{settings-counted}
+use Rattle.copies.specs.SortedPairs as sorted
+use Rattle.copies.specs.CopyReadBack as read
+use Rattle.copies.specs.CopySize.{copy-fits}
+use Rattle.copies.specs.CopiesHold as seen
+use Rattle.copies.specs.CopiesHold.{copying, alike-exactly}
 
 module _ (s : Sheet) (g : GoodSheet s) where
   abbrev p : ℕ
@@ -92,10 +98,14 @@ module _ (s : Sheet) (g : GoodSheet s) where
   answer-longest : LongestIn s (answer s)
   answer-longest = longest-in s monic-factors (longest p prime monic)
 
+  pub degrees-low : partDegrees (sheetParts s) ≤ degreeLimit
+  degrees-low = omega (arith, parts-degrees, g .fits)
+
   pub fits : Fits (answer s)
-  fits =
-      let low : partDegrees (sheetParts s) ≤ degreeLimit = omega (arith, parts-degrees, g .fits) in
-      record { short = answer-fits s shapes low; low = answer-is-bytes s shapes low g }
+  fits = record { short = answer-fits s shapes degrees-low; low = answer-is-bytes s shapes degrees-low g }
+
+  pub copy-fit : Fits (copy s)
+  copy-fit = copy-fits s g shapes degrees-low
 
   -- the factors that are written are different ones
   pub factors-differ : different (listOf (sheetParts s)) ≡ records (sheetParts s)
@@ -229,3 +239,24 @@ split-succeeds = reader.split-succeeds
 
 pub read-succeeds : (area : ℕ) (b : List ℕ) → (readCall area b) .number ≡ 0 → readCall area b ≡ success ((readCall area b) .bytes)
 read-succeeds = reader.read-succeeds multiplies
+
+-- ---- copies
+
+pub sorts : Sorts
+sorts = sorted.sorts
+
+pub figures-read-off : FiguresReadOff
+figures-read-off = read.figures-read-off
+
+pub copies-show : CopiesShow
+copies-show bytes s e = copying s
+
+pub copies-fit : CopiesFit
+copies-fit bytes s e = copy-fit s (read-is-good bytes s e)
+
+-- "Any two accepted sheets alike in exactly those figures give the same copy, byte for byte"
+pub alike-copies : AlikeCopies
+alike-copies b c s t e f = alike-exactly s t
+
+pub nothing-else-seen : NothingElseSeen
+nothing-else-seen = seen.nothing-else-seen

@@ -2,6 +2,7 @@
 // Each has the contract of the call that it stands for: the number, the place, the count and every byte of the area.
 ghost use lib.ListN.{length};
 ghost use Rattle.specification.specs.Calls.{splitCall, readCall};
+ghost use Rattle.specification.specs.Copy.{copyCall};
 ghost use Rattle.splitter.specs.Outcomes.{Called};
 use splitter::Outcome;
 
@@ -19,4 +20,12 @@ pub extern "C" fn kuzhmader_read(bytes: &[u8], area: &mut [u8]) -> Outcome
     ensures { λ r. ⌜ Called (readCall (length (now (area .entry))) (now (bytes .entry))) r (now (area .entry)) (now (area .exit)) ⌝ }
 {
     splitter::read(bytes, area)
+}
+
+// `splitter::copy` for C.
+#[no_mangle]
+pub extern "C" fn kuzhmader_copy(sheet: &[u8], area: &mut [u8]) -> Outcome
+    ensures { λ r. ⌜ Called (copyCall (length (now (area .entry))) (now (sheet .entry))) r (now (area .entry)) (now (area .exit)) ⌝ }
+{
+    splitter::copy(sheet, area)
 }

@@ -62,7 +62,7 @@ module _ {C : Command → Type 0} (s : Sheet) (k : Kinds (s .prime) C) where
   all-parts (P ∷ Ps) = all-cons (k .part _ _ _) (all-append (all-factors (P .splitting .factors)) (all-parts Ps))
 
 -- each command has the operands that its code asks for
-well-formed : (s : Sheet) (Ps : List Part) → All WellFormed (answerCommands s Ps)
+pub well-formed : (s : Sheet) (Ps : List Part) → All WellFormed (answerCommands s Ps)
 unfolding answerCommands headCommands endCommands runCommands operandCount first
 well-formed s Ps =
     all-cons refl (all-cons refl (all-append (all-parts s (record {

@@ -12,6 +12,7 @@ pub mod SheetLength
 pub mod SheetSize
 pub mod AnswerLayout
 pub mod CommandsReadBack
+pub mod CommandPlaces
 pub mod AnswerReadBack
 pub mod AnswerSize
 pub mod AnswersAccepted

@@ -1,12 +1,12 @@
 -- How long sheets are.
 -- Proves that a sheet has at most 102 bytes, that a fault stands at place 102 at the latest and has a number of `sheetNumbers`, and that the first 103
 -- bytes decide. Assumes nothing.
-use mathlib.Core.Path.{_≡_, refl, _∙_, ap}
-use mathlib.Core.List.{List, [], _∷_}
+use mathlib.Core.Path.{_≡_, refl, sym, _∙_, ap}
+use mathlib.Core.List.{List, [], _∷_, _++_}
 use Prim.Native.Nat.{ℕ, zero, suc, _≤_, _<_, _+_, _-_, _*_}
 use native.Mathlib.Omega.{arith}
 use lib.ListN.{length, take, set, length-set}
-use lib.Seq.{take-nil}
+use lib.Seq.{take-nil, take-append-le}
 use lib.Dec.{T}
 use Rattle.specification.specs.Limits.{taken, degreeLimit}
 use Rattle.specification.specs.Lists.{anyPasses}
@@ -128,3 +128,8 @@ module _ (bytes : List ℕ) where
           more zero l = absurd (omega arith)
           more (suc n) l = refl
       go (stop k place) h = refl
+
+-- what follows more bytes than a sheet has is not looked at
+pub rest-unread : (xs ys : List ℕ) → sheetLimit < length xs → readSheet (xs ++ ys) ≡ readSheet xs
+rest-unread xs ys long =
+    sym (first-bytes-decide (xs ++ ys)) ∙ ap readSheet (take-append-le (suc sheetLimit) xs ys (omega arith)) ∙ first-bytes-decide xs

@@ -1,6 +1,6 @@
 -- Lists in order: every member comes before all that follow it.
 -- Proves that appending, mapping and flattening keep lists in order, that numbers counted up are, and that two lists with the same members,
--- both in order by a strict order, are equal. Assumes nothing.
+-- both in order by a strict order, are equal; by one in which equals may stand side by side, if each is there as often. Assumes nothing.
 use mathlib.Core.Path.{_≡_, refl, sym, _∙_, ap₂, subst}
 use mathlib.Core.List.{
   List,
@@ -12,13 +12,22 @@ use mathlib.Core.List.{
   Pairwise,
   Pairwise·nil,
   Pairwise·cons,
+  Perm,
+  Perm·nil-eq,
+  Perm·eq-nil,
+  Perm·symm,
+  Perm·subset,
+  Perm·cons-inv,
+  List·Mem,
+  mem-cons-self,
+  eq-or-mem-of-mem-cons,
   List·Memᴰ·not-nil,
   List·Memᴰ·cases-cons,
   List·Memᴰ·append-cases,
   Memᴰ·of-map,
 }
 use mathlib.Core.List.{List·Memᴰ·head as here, List·Memᴰ·tail as there}
-use mathlib.Core.Logic.{_⊎_, inl, inr, _≢_, ⊎-elim, ∥∥₁-elim}
+use mathlib.Core.Logic.{_⊎_, inl, inr, _≢_, ⊎-elim, ∥∥₁-elim, Or·elim}
 use Prim.Native.Nat.{ℕ, zero, suc, _<_}
 use Rattle.specification.specs.Lists.{upFrom}
 use Rattle.lists.specs.NumbersFrom.{upFrom-member}
@@ -103,3 +112,25 @@ module _ {A : Type 0} where
       -- what follows x is not x
       not-first : {x y z : A} {s : List A} → All (before x) s → x ≡ y → z ∈ s → z ≢ y
       not-first {x} {z = z} p e i q = O .irreflexive (subst (before x) (q ∙ sym e) (p z i))
+
+-- ---- equals side by side
+
+module _ {A : Type 0} where
+  pub record WeakOrder (R : A → A → Type 0) : Type 0 where
+    pub prop : (a b : A) → IsProp (R a b)
+    pub reflexive : {a : A} → R a a
+    pub transitive : {a b c : A} → R a b → R b c → R a c
+    pub antisymmetric : {a b : A} → R a b → R b a → a ≡ b
+
+  pub weak-order-unique : {R : A → A → Type 0} → WeakOrder R → (l m : List A) → Pairwise R l → Pairwise R m → Perm l m → l ≡ m
+  weak-order-unique O [] m s t p = Perm·nil-eq p
+  weak-order-unique O (a ∷ l) [] s t p = Perm·eq-nil p
+  weak-order-unique {R} O (a ∷ l) (b ∷ m) (Pairwise·cons f s) (Pairwise·cons g t) p =
+      ap₂ _∷_ same (weak-order-unique O l m s t (Perm·cons-inv (subst (λ c. Perm (a ∷ l) (c ∷ m)) (sym same) p)))
+    where
+      -- what stands first may stand before each
+      first : {x y : A} {k : List A} → ((z : A) → List·Mem z k → R x z) → List·Mem y (x ∷ k) → R x y
+      first {x} {y} h i = Or·elim (O .prop x y) (eq-or-mem-of-mem-cons i) (λ e. subst (R x) (sym e) (O .reflexive)) (h y)
+
+      same : a ≡ b
+      same = O .antisymmetric (first f (Perm·subset (Perm·symm p) b mem-cons-self)) (first g (Perm·subset p a mem-cons-self))

@@ -1,6 +1,7 @@
 pub mod Tests
 pub mod Decides
 pub mod Members
+pub mod Permutations
 pub mod Cases
 pub mod AllAny
 pub mod Firsts

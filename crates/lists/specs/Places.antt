@@ -1,11 +1,11 @@
--- What is read at the places of a list, and what a loop that counts down has shown of those that it passed. (A loop that counts up has
+-- What is read at the places of a list, how many it has, and what a loop that counts down has shown of those that it passed. (A loop that counts up has
 -- `below-none` and `below-more` of the kit's borrow.Author.Count.) Assumes nothing.
 use mathlib.Core.Path.{_≡_, refl}
-use mathlib.Core.List.{List, [], _∷_, _++_}
+use mathlib.Core.List.{List, [], _∷_, _++_, map}
 use Prim.Native.Nat.{ℕ, zero, suc, _-_, _≤_}
 use native.Mathlib.Decide.{ℕ-discrete}
 use native.Mathlib.Omega.{arith}
-use lib.ListN.{length, getD, replicate, List·getD-eq-default}
+use lib.ListN.{length, getD, replicate, length-map, List·getD-eq-default}
 
 module _ {A : Type 0} (d : A) where
   -- past a list's end d is read
@@ -23,6 +23,10 @@ module _ {A : Type 0} (d : A) where
   read-padded [] m k = read-replicate m k
   read-padded (a ∷ l) m zero = refl
   read-padded (a ∷ l) m (suc k) = read-padded l m k
+
+-- an array has as many places as what the kit reads of it; f is what it reads of an entry
+pub has-room : {A B : Type 0} (f : A → B) (l : List A) {n k : ℕ} → length (map f l) ≡ k → n ≤ k → n ≤ length l
+has-room f l long u = omega (arith, long, length-map l f)
 
 -- what holds from i on and at i - 1 holds from i - 1 on
 pub from-more : (P : ℕ → Type 0) (i : ℕ) → ((k : ℕ) → i ≤ k → P k) → P (i - 1) → (k : ℕ) → i - 1 ≤ k → P k

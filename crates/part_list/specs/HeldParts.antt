@@ -3,9 +3,9 @@
 use mathlib.Core.Path.{_≡_}
 use mathlib.Core.List.{List, [], map}
 use Prim.Native.Nat.{_≤_}
-use native.Mathlib.Omega.{arith}
-use lib.ListN.{length, take, length-map}
+use lib.ListN.{length, take}
 use Rattle.specification.specs.Items1to3.{Before}
+use Rattle.lists.specs.Places.{has-room}
 use Rattle.arrays.specs.Listed.{listed}
 use Rattle.part_verdict.specs.declared.Verdict.the-variants.{Basic}
 use Rattle.part_verdict.specs.declared.Factor.{Factor}
@@ -29,4 +29,4 @@ noPart = record { base = []; degree = 0; exponent = 0; verdict = Basic; first = 
 
 -- no more parts are held than the array has; f is what the kit reads of a part
 pub held-few : {B : Type 0} (f : Part → B) (a : Parts) → length (map f (a .parts)) ≡ 32 → a .count ≤ 32 → a .count ≤ length (a .parts)
-held-few f a long l = omega (arith, length-map (a .parts) f)
+held-few f a long l = has-room f (a .parts) long l

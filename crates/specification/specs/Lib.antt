@@ -15,6 +15,7 @@ pub mod Sheets
 pub mod Answers
 pub mod FactorList
 pub mod Calls
+pub mod Copy
 pub mod Longest
 pub mod Term3
 pub mod Items1to3
@@ -24,8 +25,10 @@ pub mod Settings
 pub mod RunClaims
 pub mod SheetClaims
 pub mod ReaderClaims
+pub mod CopyClaims
 pub mod Text
 pub mod Open
 pub mod Trials
 pub mod RunTrials
 pub mod Edges
+pub mod CopyTrials

@@ -1,5 +1,5 @@
 -- `unfolding everything` opens all definitions at once, to compute with them.
--- The tables of `Trials` and `Edges` are worked with it; a proof opens only what it needs.
+-- The tables of `Trials`, `Edges` and others are worked with it; a proof opens only what it needs.
 use mathlib.Core.List.{flatMap}
 use Rattle.specification.specs.Lists.{allPass, anyPasses, first, upFrom, below, same}
 use Rattle.specification.specs.Limits.{primes, taken}
@@ -19,8 +19,9 @@ use Rattle.specification.specs.Sheets.{sheet, whole, readSheet, headComm
 use Rattle.specification.specs.Answers.{factorCommands, partCommands, runCommands, endCommands, answerCommands, answer}
 use Rattle.specification.specs.FactorList.{withCoefficients, factorsIn, factorList, factorTotal, differentTotal, freeTotal, runIn}
 use Rattle.specification.specs.Calls.{answerTo, splitCall, sheetIn, isAnswerTo, readCall}
+use Rattle.specification.specs.Copy.{insert, sorted, pairsOf, figuresOf, copyCommands, copyOf, visible, shown, copyCall}
 use Rattle.specification.specs.Text.{lastDigits, decimal, headText, coefficientText, factorText, partText, totalText, partsText, answerText}
-use Rattle.specification.specs.Text.{runText, refusalText, printed}
+use Rattle.specification.specs.Text.{runText, refusalText, printed, copied}
 
 unfoldable pub everything : Unit {0}
 unfolding
@@ -43,5 +44,6 @@ unfolding
     factorCommands partCommands runCommands endCommands answerCommands answer
     withCoefficients factorsIn factorList factorTotal differentTotal freeTotal runIn
     answerTo splitCall sheetIn isAnswerTo readCall
-    lastDigits decimal headText coefficientText factorText partText totalText partsText answerText runText refusalText printed
+    insert sorted pairsOf figuresOf copyCommands copyOf visible shown copyCall
+    lastDigits decimal headText coefficientText factorText partText totalText partsText answerText runText refusalText printed copied
 everything = tt

@@ -1,4 +1,4 @@
--- The text that the program `split` prints for the bytes it is given, in ASCII: `printed`.
+-- The text that the program `split` prints for the bytes it is given, in ASCII: `printed`; and what the program `copy` gives out: `copied`.
 -- Numbers are in base ten; a space stands between words and numbers, and each line ends with a line feed.
 use Prim.Native.Nat.{ℕ, zero, suc, _+_, _/_, _%_}
 use Prim.Native.Char.{code}
@@ -11,6 +11,7 @@ use Rattle.specification.specs.Parts.{Verdict, basic, solid, power, spli
 use Rattle.specification.specs.Totals.{Totals, totalsOf}
 use Rattle.specification.specs.RunLength.{runLength}
 use Rattle.specification.specs.Sheets.{Sheet, accepted, fault, readSheet}
+use Rattle.specification.specs.Copy.{Visible, figures, number, copyOf, visible}
 
 -- ---- words and numbers
 
@@ -78,7 +79,7 @@ partsText s Ps = headText (s .prime) (degree (s .poly)) ++ flatMap partText Ps +
 unfoldable pub answerText : Sheet → List ℕ
 answerText s = partsText s (partsOf (s .prime) (s .poly))
 
--- ---- the program
+-- ---- the programs
 
 -- "A refusal prints `refused` number `at` place"
 unfoldable pub refusalText : ℕ → ℕ → List ℕ
@@ -87,3 +88,12 @@ refusalText k at = item "refused " k ++ item " at " at ++ ascii "\n"
 -- "`split` reads one sheet from standard input": what it prints for the bytes there
 unfoldable pub printed : List ℕ → List ℕ
 printed bytes = elim (readSheet bytes) [ accepted s ↦ answerText s | fault k at ↦ refusalText k at ]
+
+-- the program `copy` gives out a copy's bytes, or the line of a refusal, whose place is 0
+abbrev pub givenOut : Visible → List ℕ
+givenOut (figures g) = copyOf g
+givenOut (number k) = refusalText k 0
+
+-- it reads a sheet as `split` does: what it gives out for the bytes there
+unfoldable pub copied : List ℕ → List ℕ
+copied bytes = givenOut (visible (readSheet bytes))

@@ -2,16 +2,15 @@
 -- Proves that `textRoom` is room for it, and that what follows the first 103 bytes of an input changes nothing. Assumes nothing.
 use mathlib.Core.Path.{_≡_, refl, sym, _∙_, ap, subst}
 use mathlib.Core.List.{List, _++_}
-use Prim.Native.Nat.{ℕ, suc, _<_}
+use Prim.Native.Nat.{ℕ, _<_}
 use native.Mathlib.Omega.{arith}
 use lib.ListN.{length}
-use lib.Seq.{take-append-le}
 use Rattle.specification.specs.Sheets.{Sheet, Reading, accepted, fault, readSheet}
 use Rattle.specification.specs.Text.{answerText, refusalText, printed}
 use Rattle.specification.specs.SheetClaims.{sheetLimit}
 use Rattle.layouts.specs.ReaderBounds.{numbered-within}
 use Rattle.layouts.specs.SheetsRead.{read-is-good}
-use Rattle.layouts.specs.SheetLength.{fault-number, fault-place, first-bytes-decide}
+use Rattle.layouts.specs.SheetLength.{fault-number, fault-place, rest-unread}
 use Rattle.split_text.specs.TextSize.{textRoom, Sized, answer-sized, refusal-sized}
 
 abbrev textOf : Reading → List ℕ
@@ -41,11 +40,5 @@ printed-sized bytes = subst (Sized textRoom) (sym (printed-is bytes)) (go (readS
 
 -- ---- long inputs
 
--- what follows more bytes than a sheet has is not looked at
-module _ (xs ys : List ℕ) (long : sheetLimit < length xs) where
-  reading-prefix : readSheet (xs ++ ys) ≡ readSheet xs
-  reading-prefix =
-      sym (first-bytes-decide (xs ++ ys)) ∙ ap readSheet (take-append-le (suc sheetLimit) xs ys (omega arith)) ∙ first-bytes-decide xs
-
-  pub printed-prefix : printed (xs ++ ys) ≡ printed xs
-  printed-prefix = printed-is (xs ++ ys) ∙ ap textOf reading-prefix ∙ sym (printed-is xs)
+pub printed-prefix : (xs ys : List ℕ) → sheetLimit < length xs → printed (xs ++ ys) ≡ printed xs
+printed-prefix xs ys long = printed-is (xs ++ ys) ∙ ap textOf (rest-unread xs ys long) ∙ sym (printed-is xs)

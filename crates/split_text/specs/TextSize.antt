@@ -43,7 +43,7 @@ use Rattle.layouts.specs.AnswerLayout.{sheetParts}
 use Rattle.layouts.specs.CommandBytes.{Byte}
 use Rattle.layouts.specs.ReaderBounds.{lastNumber}
 use Rattle.items.specs.PartShapes.{partDegree, partDegrees, FactorShape, PartShape, total-bound, free-bound, different-bound}
-use Rattle.claims.specs.Proved.{shapes, parts-degrees}
+use Rattle.claims.specs.Proved.{shapes, degrees-low}
 use Rattle.area.specs.Wrote.{Room}
 use Rattle.split_text.specs.Decimal.{length-decimal, bytes-decimal}
 
@@ -161,11 +161,14 @@ answer-sized s g =
     let p : ℕ = s .prime in
     let t : taken p ≡ true = passes (taken p) (g .prime) in
     let prime : p < 1000 = omega (arith, fits-byte t) in
-    let low : partDegrees (sheetParts s) ≤ degreeLimit = omega (arith, parts-degrees s g, g .fits) in
+    let low = degrees-low s g in
     sized-within (omega arith) (sized-parts (square-fits-byte p t) s (sheetParts s) prime (omega (arith, g .fits)) (shapes s g) low)
 
-pub refusal-sized : (k at : ℕ) → k ≤ lastNumber → at ≤ sheetLimit → Sized textRoom (refusalText k at)
+-- a line of 19 bytes at most
+pub refusal-line : (k at : ℕ) → k ≤ lastNumber → at ≤ sheetLimit → Sized 19 (refusalText k at)
 unfolding refusalText allPass
-refusal-sized k at l u =
-    sized-within (omega arith)
-    (sized-append (sized-append (sized-item "refused " tt k (omega arith)) (sized-item " at " tt at (omega arith))) (sized-word "\n" tt))
+refusal-line k at l u =
+    sized-append (sized-append (sized-item "refused " tt k (omega arith)) (sized-item " at " tt at (omega arith))) (sized-word "\n" tt)
+
+pub refusal-sized : (k at : ℕ) → k ≤ lastNumber → at ≤ sheetLimit → Sized textRoom (refusalText k at)
+refusal-sized k at l u = sized-within (omega arith) (refusal-line k at l u)

@@ -1,5 +1,5 @@
 // The lines that `split` prints, written into a lent area: each writer begins at a place and gives the place after its text.
-// What is public is so for the program `split`, and no entry point of the library.
+// What is public is so for the programs `split` and `copy`, and no entry point of the library.
 ghost use mathlib.Core.Path.{_≡_};
 ghost use mathlib.Core.List.{_++_, flatMap};
 ghost use Prim.Native.Nat.{_≤_, _<_};
@@ -240,7 +240,7 @@ fn answer_text(out: &mut [u8], s: Sheet) -> usize
 }
 
 // "A refusal prints `refused` number `at` place".
-fn refusal_text(out: &mut [u8], number: u8, place: usize) -> usize
+pub fn refusal_text(out: &mut [u8], number: u8, place: usize) -> usize
     requires { ⌜ Room (now out) 0 (text.refusalText number place) ⌝ }
     ensures { λ r. ⌜ Wrote (now (out .entry)) (now (out .exit)) 0 (text.refusalText number place) r ⌝ }
 {

@@ -1,7 +1,7 @@
--- What the customer's terms say of the two calls, of the number, the place, the count and the area that a call gives back: `Called` of the entry points'
+-- What the customer's terms say of `split` and `read`, of the number, the place, the count and the area that a call gives back: `Called` of the entry points'
 -- contracts. Proves which numbers and places they give, that a refused call changes nothing, term 3, the settings and the run of the bytes that `split`
 -- wrote, that `read` takes exactly the answers and gives back their sheets, and that each call undoes the other in any area long enough. Assumes nothing.
-use mathlib.Core.Path.{_≡_, refl, sym, _∙_, ap, subst}
+use mathlib.Core.Path.{_≡_, refl, sym, _∙_, ap, ap₂, subst}
 use mathlib.Core.Logic.{_⊎_, inl, inr, _≢_, ⊎-elim, _↔_}
 use mathlib.Core.Bool.{true}
 use mathlib.Core.List.{List}
@@ -32,7 +32,7 @@ use Rattle.splitter.specs.Outcomes.{Called, split-answered}
 abbrev pub written : Outcome → List ℕ → List ℕ
 written r new = take (r .count) new
 
-written-is : {o : calls.Outcome} {r : Outcome} {old new : List ℕ} → Called o r old new → written r new ≡ o .bytes
+pub written-is : {o : calls.Outcome} {r : Outcome} {old new : List ℕ} → Called o r old new → written r new ≡ o .bytes
 written-is {o} {r} {old} {new} h =
     ap (λ (k : ℕ). take k new) (h .count) ∙ ap (take (calls.count o)) (h .area) ∙ take-append-seam (o .bytes) (drop (calls.count o) old)
 
@@ -43,9 +43,36 @@ rest-kept {o} {r} {old} {new} h =
     ∙ ap (λ (k : ℕ). drop k old) (sym (h .count))
 
 -- a call of which it is known that it succeeds
-succeeds : {o : calls.Outcome} {bytes : List ℕ} {r : Outcome} {old new : List ℕ} → Called o r old new → o ≡ success bytes
+pub succeeds : {o : calls.Outcome} {bytes : List ℕ} {r : Outcome} {old new : List ℕ} → Called o r old new → o ≡ success bytes
     → (r .number ≡ 0) × (written r new ≡ bytes)
 succeeds h e = (h .number ∙ ap (λ (o : calls.Outcome). o .number) e, written-is h ∙ ap (λ (o : calls.Outcome). o .bytes) e)
+
+-- ---- two calls
+
+pub same-outcome : {r r₂ : Outcome} → r .number ≡ r₂ .number → r .place ≡ r₂ .place → r .count ≡ r₂ .count → r ≡ r₂
+same-outcome e f g = λ i. record { number = e i; place = f i; count = g i }
+
+module _ {o o₂ : calls.Outcome} {r r₂ : Outcome} {old new new₂ : List ℕ} (h : Called o r old new) (h₂ : Called o₂ r₂ old new₂) where
+  -- the specification's outcome is all that comes back depends on
+  pub called-alike : o ≡ o₂ → (r ≡ r₂) × (new ≡ new₂)
+  called-alike e = (
+    same-outcome (h .number ∙ ap (λ (x : calls.Outcome). x .number) e ∙ sym (h₂ .number))
+        (h .place ∙ ap (λ (x : calls.Outcome). x .place) e ∙ sym (h₂ .place)) (h .count ∙ ap calls.count e ∙ sym (h₂ .count)),
+    h .area ∙ ap (λ (x : calls.Outcome). calls.areaAfter x old) e ∙ sym (h₂ .area),
+  )
+
+  -- and is told by it
+  pub called-told : (r ≡ r₂) × (new ≡ new₂) → o ≡ o₂
+  called-told (e, f) = λ i. record { number = number i; place = place i; bytes = bytes i }
+    where
+      number : o .number ≡ o₂ .number
+      number = sym (h .number) ∙ ap (λ (x : Outcome). x .number) e ∙ h₂ .number
+
+      place : o .place ≡ o₂ .place
+      place = sym (h .place) ∙ ap (λ (x : Outcome). x .place) e ∙ h₂ .place
+
+      bytes : o .bytes ≡ o₂ .bytes
+      bytes = sym (written-is h) ∙ ap₂ (λ (x : Outcome) (l : List ℕ). written x l) e f ∙ written-is h₂
 
 -- ---- numbers, places and refusals
 
@@ -69,7 +96,7 @@ NoAnswer k at = (k ≡ 9) × (at ≡ 0)
 
 module _ (Own : ℕ → ℕ → Type 0) (r : Outcome) (old new : List ℕ) where
   -- of an outcome that the specification gives
-  abbrev Settles : calls.Outcome → Type 0
+  abbrev pub Settles : calls.Outcome → Type 0
   Settles o = Called o r old new → Settled Own r old new
 
   settled-short : length old < answerArea → Settles (calls.refused 1 0)
@@ -80,12 +107,12 @@ module _ (Own : ℕ → ℕ → Type 0) (r : Outcome) (old new : List ℕ) where
     unchanged = λ ne. (h .area, h .count);
   }
 
-  settled-within : (o : calls.Outcome) → (answerArea ≤ length old → Settles o) → Settles (calls.within (length old) o)
+  pub settled-within : (o : calls.Outcome) → (answerArea ≤ length old → Settles o) → Settles (calls.within (length old) o)
   settled-within o f =
       picked Settles (ltb (length old) answerArea) (λ t. settled-short (ltb→lt (length old) answerArea t)) (λ t. f (nltb→le (length old) answerArea t))
 
   module _ (l : answerArea ≤ length old) where
-    settled-success : (bytes : List ℕ) → Settles (success bytes)
+    pub settled-success : (bytes : List ℕ) → Settles (success bytes)
     settled-success bytes h = record {
       number = inl (omega (arith, h .number));
       place = λ k. h .place;
@@ -93,7 +120,7 @@ module _ (Own : ℕ → ℕ → Type 0) (r : Outcome) (old new : List ℕ) where
       unchanged = λ ne. absurd (ne (h .number));
     }
 
-    settled-refused : (k at : ℕ) → 2 ≤ k → Own k at → Settles (calls.refused k at)
+    pub settled-refused : (k at : ℕ) → 2 ≤ k → Own k at → Settles (calls.refused k at)
     settled-refused k at large own h = record {
       number = inr (rw (h .number, h .place) own);
       place = λ j. absurd (omega (arith, h .number));

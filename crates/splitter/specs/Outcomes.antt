@@ -1,5 +1,5 @@
 -- What a call gives back and leaves in the area: `Called o r old new`, the code's outcome r and the area new are what the outcome o of the specification says.
--- Proves this of a call that is turned back and of one that wrote its bytes, and what `splitCall` is in each case. Assumes nothing.
+-- Proves this of a call that is turned back and of one that wrote its bytes, and what `splitCall` and `copyCall` are in each case. Assumes nothing.
 use mathlib.Core.Path.{_≡_, sym, _∙_, ap}
 use mathlib.Core.List.{List}
 use Prim.Native.Nat.{ℕ, _≤_, _<_}
@@ -8,6 +8,9 @@ use Rattle.specification.specs.Limits.{answerArea}
 use Rattle.specification.specs.Sheets.{Sheet, accepted, fault, readSheet}
 use Rattle.specification.specs.Answers.{answer}
 use Rattle.specification.specs.Calls as calls
+use Rattle.specification.specs.Copy.{copyCall}
+use Rattle.specification.specs.CopyClaims.{copy}
+use Rattle.copies.specs.CopiesHold.{call-shown, shown-refused, shown-accepted}
 use Rattle.area.specs.Wrote.{Wrote, wrote-from-start}
 use Rattle.splitter.specs.declared.Outcome.{Outcome}
 
@@ -58,3 +61,13 @@ module _ (area : ℕ) (bytes : List ℕ) (l : answerArea ≤ area) where
   pub split-answered : {s : Sheet} → readSheet bytes ≡ accepted s → calls.splitCall area bytes ≡ calls.success (answer s)
   unfolding calls.splitCall calls.answerTo
   split-answered e = rw (le-ltb area answerArea l, e)
+
+-- ---- the call that copies a sheet
+
+module _ (area : ℕ) (bytes : List ℕ) (l : answerArea ≤ area) where
+  -- "with place 0"
+  pub copy-refused : {k at : ℕ} → readSheet bytes ≡ fault k at → copyCall area bytes ≡ calls.refused k 0
+  copy-refused {k} {at} e = call-shown area bytes l ∙ shown-refused bytes k at e
+
+  pub copy-given : {s : Sheet} → readSheet bytes ≡ accepted s → copyCall area bytes ≡ calls.success (copy s)
+  copy-given {s} e = call-shown area bytes l ∙ shown-accepted bytes s e

@@ -1,4 +1,4 @@
-// The library's entry points on bytes: a sheet in and its answer out; an answer in and its sheet out. None has a `requires`.
+// The library's entry points on bytes: a sheet in and its answer out, or its copy for purchasing; an answer in and its sheet out. None has a `requires`.
 // Each says of every outcome the number, the place, the count and every byte of the area; the bytes that are read are lent and stay as they are.
 ghost use mathlib.Core.Path.{_≡_};
 ghost use Prim.Native.Nat.{_≤_};
@@ -6,6 +6,8 @@ ghost use lib.ListN.{length, take};
 ghost use Rattle.specification.specs.Limits.{answerArea};
 ghost use Rattle.specification.specs.Answers.{answer};
 ghost use Rattle.specification.specs.Calls.{splitCall, readCall};
+ghost use Rattle.specification.specs.Copy.{copyCall};
+ghost use Rattle.specification.specs.CopyClaims.{copy};
 ghost use Rattle.specification.specs.SheetClaims.{GoodSheet};
 ghost use Rattle.commands.specs.AsSheet.{asSheet};
 ghost use Rattle.lists.specs.Decides.{Decides};
@@ -14,6 +16,8 @@ ghost use Rattle.area.specs.Wrote.{Wrote};
 ghost use Rattle.splitter.specs.Outcomes.{IsSuccess, IsRefused, Called};
 use answer_reader::find_candidate;
 use commands::Sheet;
+use copy_writer::sorted_pairs;
+use copy_writer::write_copy;
 use sheet_reader::read_sheet;
 use sheet_writer::write_sheet;
 
@@ -73,6 +77,39 @@ pub fn split(sheet: &[u8], area: &mut [u8]) -> Outcome
     }
     let s = read.sheet;
     success(answer_to(area, s))
+}
+
+// The copy of a sheet, from the start of the area on: of its answer, which has no run here, only the sorted pairs go on to the writer.
+fn copy_to(out: &mut [u8], s: Sheet) -> usize
+    requires { ⌜ MonicModSquare (s .prime) (s .coefs) (s .degree) × GoodSheet (asSheet s) × (answerArea ≤ length (now out)) ⌝ }
+    ensures { λ r. ⌜ Wrote (now (out .entry)) (now (out .exit)) 0 (copy (asSheet s)) r ⌝ }
+{
+    let f = s.coefs;
+    let plain = Sheet {
+        prime: s.prime,
+        degree: s.degree,
+        coefs: f,
+        run: false,
+    };
+    let mut answer = [0u8; AREA];
+    let count = answer_to(&mut answer, plain);
+    let pairs = sorted_pairs(&answer[0..count]);
+    write_copy(out, s.prime, s.degree, pairs)
+}
+
+// What purchasing may see of a sheet, written into the area: "A refused sheet shows its number with place 0".
+pub fn copy(sheet: &[u8], area: &mut [u8]) -> Outcome
+    ensures { λ r. ⌜ Called (copyCall (length (now (area .entry))) (now (sheet .entry))) r (now (area .entry)) (now (area .exit)) ⌝ }
+{
+    if area.len() < AREA {
+        return refused(1, 0);
+    }
+    let reading = read_sheet(sheet);
+    if reading.number != 0 {
+        return refused(reading.number, 0);
+    }
+    let s = reading.sheet;
+    success(copy_to(area, s))
 }
 
 // The first `count` bytes of b are the bytes of a.

@@ -1,14 +1,16 @@
 -- The commands from a place of the bytes on: `commandsFrom`, with the command that begins there, `commandAt`, and the place after it.
--- Proves that bytes are walked command by command, cut ones included, and what a command with all its operands says of their length.
--- Assumes nothing.
+-- Proves that bytes are walked command by command, cut ones included, what a command with all its operands says of their length, and where a factor's
+-- operands are. Assumes nothing.
 use mathlib.Core.Path.{_≡_, refl, _∙_, ap}
 use mathlib.Core.List.{List, [], _∷_}
 use Prim.Native.Nat.{ℕ, suc, _+_, _-_, min, _≤_, _<_}
 use native.Mathlib.Omega.{arith}
+use lib.Dec.{lit<}
 use lib.ListN.{length, getD, take, drop, length-take, length-drop, drop-of-length-le}
 use lib.Seq.{drop-cons, drop-drop, getD-take, getD-drop}
+use Rattle.specification.specs.Lists.{first}
 use Rattle.specification.specs.Commands.{Command, command, operand, operandCount, commandsAfter, commands}
 use Rattle.layouts.specs.CommandsReadBack.{WellFormed, commands-cut, past-operands}
 
 abbrev pub commandsFrom : List ℕ → ℕ → List Command
 commandsFrom bytes at = commands (drop at bytes)
@@ -56,3 +58,16 @@ module _ (bytes : List ℕ) (at : ℕ) where
   operand-at code j e l =
       getD-take (operandCount (getD bytes at 0)) (drop (at + 1) bytes) j 0 (rw e l) ∙ getD-drop (at + 1) bytes j 0
       ∙ ap (λ (k : ℕ). getD bytes k 0) (let s : at + 1 + j ≡ at + (1 + j) = omega arith in s)
+
+-- ---- the command of a factor: 0x12, its degree and its times
+
+module _ (bytes : List ℕ) (at : ℕ) (code : getD bytes at 0 ≡ 0x12) where
+  pub factor-degree : operand (commandAt bytes at) 0 ≡ getD bytes (at + 1) 0
+  factor-degree = operand-at bytes at 0x12 0 code (unfold operandCount first in lit< tt)
+
+  pub factor-times : operand (commandAt bytes at) 1 ≡ getD bytes (at + 2) 0
+  factor-times = operand-at bytes at 0x12 1 code (unfold operandCount first in lit< tt)
+
+  pub factor-after : placeAfter bytes at ≡ at + 3
+  unfolding operandCount first
+  factor-after = rw code refl

@@ -1,0 +1,1 @@
+// Copies of the definitions of document 02: theorems only, in specs/.
