@@ -42,7 +42,7 @@ use Rattle.splitter.specs.CallLaws.{
 abbrev pub NumberAlone : ℕ → ℕ → Type 0
 NumberAlone k at = Numbered k × (at ≡ 0)
 
--- the numbers of `copy` are those of `split`
+-- the numbers of `copy` are 0 to 8 and 14, each at place 0
 pub copy-settled : (sheet : List ℕ) {r : Outcome} {old new : List ℕ} → Called (copyCall (length old) sheet) r old new → Settled NumberAlone r old new
 unfolding copyCall visible shown
 copy-settled sheet {r} {old} {new} =
