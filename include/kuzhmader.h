@@ -63,7 +63,8 @@ kuzhmader_outcome kuzhmader_read(const uint8_t *answer, size_t answer_length, ui
  * `kuzhmader_split` refuses is refused with the same number, at place 0. So two sheets alike in those figures, or refused with one number, give the
  * same three fields and write the same bytes. What follows from the figures is shown with them: modulo 4 only x⁴ + 2x³ + x² has two different
  * factors of degree 1, each twice; and 14 says that 0x04 is there and p divides the constant coefficient. Nothing is promised of the time, which is
- * that of the split and depends on the sheet, of the padding between the fields, or of what the call leaves on the stack. */
+ * that of the split and depends on the sheet, of the padding between the fields, or of what the call leaves on the stack. Hand out the first
+ * `count` bytes only: what stood in the area before, an earlier answer perhaps, stays behind them. */
 kuzhmader_outcome kuzhmader_copy(const uint8_t *sheet, size_t sheet_length, uint8_t *area, size_t area_length);
 
 /* What the three have in common, and what the three below share: a call with a byte lent where null stands for no bytes. */

@@ -73,7 +73,7 @@ module _ (sheet : List ℕ) {r : Outcome} {old new : List ℕ} (l : answerArea �
     same : new ≡ old
     same = copy-settled sheet h .unchanged ne .0
 
-    -- there is room for a line, whatever its place
+    -- there is room for a line, at any place up to 102
     pub line-room : (at : ℕ) → at ≤ sheetLimit → Room new 0 (refusalText (r .number) at)
     line-room at u =
         subst (λ (area : List ℕ). Room area 0 (refusalText (r .number) at)) (sym same)

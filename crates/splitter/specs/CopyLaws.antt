@@ -63,13 +63,21 @@ module _ (sheet : List ℕ) {r : Outcome} {old new : List ℕ} (h : Called (copy
     pub sheets-copied : (s : Sheet) → readSheet sheet ≡ accepted s → (r .number ≡ 0) × (written r new ≡ copy s)
     sheets-copied s e = succeeds h (copy-given (length old) sheet l e)
 
-    -- the bytes show the sheet's prime and degree and each factor of its answer with its times, sorted, and nothing else
+    -- the bytes show the sheet's prime and degree and the degree and times of each factor of its answer, sorted, and nothing else
     pub copy-shows : (s : Sheet) → readSheet sheet ≡ accepted s → CopyFrom s (written r new)
     copy-shows s e = subst (CopyFrom s) (sym (sheets-copied s e .1)) (copies-show sheet s e .holds)
 
     -- "shows its number"
     pub refusals-told : (k at : ℕ) → readSheet sheet ≡ fault k at → r .number ≡ k
     refusals-told k at e = h .number ∙ ap (λ (o : calls.Outcome). o .number) (copy-refused (length old) sheet l e)
+
+    -- only an accepted sheet gets a copy
+    pub copy-accepted : r .number ≡ 0 → (s : Sheet) × (readSheet sheet ≡ accepted s)
+    copy-accepted z = read (readSheet sheet) refl
+      where
+        read : (x : Reading) → readSheet sheet ≡ x → (s : Sheet) × (readSheet sheet ≡ accepted s)
+        read (accepted s) e = (s, e)
+        read (fault k at) e = absurd (omega (arith, z, refusals-told k at e, numbered-within k (fault-number sheet k at e) .0))
 
     -- beside a call that splits the same sheet
     module _ {r₂ : Outcome} {old₂ new₂ : List ℕ} (l₂ : answerArea ≤ length old₂) (h₂ : Called (splitCall (length old₂) sheet) r₂ old₂ new₂) where
@@ -83,15 +91,12 @@ module _ (sheet : List ℕ) {r : Outcome} {old new : List ℕ} (h : Called (copy
 
       -- the pairs are those of the answer that it wrote
       pub answer-copied : r .number ≡ 0 → SortedFrom (pairsIn (written r₂ new₂)) (pairsIn (written r new))
-      answer-copied z = read (readSheet sheet) refl
-        where
-          read : (x : Reading) → readSheet sheet ≡ x → SortedFrom (pairsIn (written r₂ new₂)) (pairsIn (written r new))
-          read (accepted s) e =
-              let shows = copy-shows s e in
-              let shown-pairs = ap pairsIn (shows .layout) ∙ figures-read-off _ .pairs in
-              subst (λ p. SortedFrom p (pairsIn (written r new))) (sym (ap pairsIn (sheets-answered sheet h₂ l₂ s e .1)))
-              (subst (SortedFrom (pairsIn (answer s))) (sym shown-pairs) (shows .sortedFrom))
-          read (fault k at) e = absurd (omega (arith, z, refusals-told k at e, numbered-within k (fault-number sheet k at e) .0))
+      answer-copied z =
+          let (s, e) = copy-accepted z in
+          let shows = copy-shows s e in
+          let shown-pairs = ap pairsIn (shows .layout) ∙ figures-read-off _ .pairs in
+          subst (λ p. SortedFrom p (pairsIn (written r new))) (sym (ap pairsIn (sheets-answered sheet h₂ l₂ s e .1)))
+          (subst (SortedFrom (pairsIn (answer s))) (sym shown-pairs) (shows .sortedFrom))
 
   -- the number is that of `split`, if both areas are long enough or neither is
   pub numbers-agree : {r₂ : Outcome} {old₂ new₂ : List ℕ} → Called (splitCall (length old₂) sheet) r₂ old₂ new₂
@@ -133,7 +138,7 @@ module _ (b c : List ℕ) {r r₂ : Outcome} {old new old₂ new₂ : List ℕ}
 
 module _ (b c : List ℕ) {r r₂ : Outcome} {old new new₂ : List ℕ}
     (h : Called (copyCall (length old) b) r old new) (h₂ : Called (copyCall (length old) c) r₂ old new₂) where
-  -- all that is seen is a function of the figures, or of the number, and these are seen
+  -- beside the bytes that stood in the area before, all that is seen is a function of the figures, or of the number, and these are seen
   pub seen-exactly : ((length old < answerArea) ⊎ SeenAlike b c) ↔ ((r ≡ r₂) × (new ≡ new₂))
   seen-exactly =
       let (same, told) = nothing-else-seen (length old) b c in
