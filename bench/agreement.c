@@ -1,4 +1,4 @@
-/* Compares an answer's parts with what FLINT finds modulo p, and a copy with the answer. */
+/* Compares an answer's parts with what FLINT finds modulo p, a copy with the answer, and the sheet of a line with the one that was made. */
 #include <string.h>
 
 #include "bench.h"
@@ -86,4 +86,15 @@ int copy_agrees(const polynomial *f, const uint8_t *copy, size_t length)
                 if (at + 3 >= length || copy[at] != FACTOR || copy[at + 1] != degree || copy[at + 2] != times)
                     return 0;
     return memcmp(copy, answer, 4) == 0 && at + 1 == length && copy[at] == END;
+}
+
+int lines_that_agree(void)
+{
+    uint8_t sheet[KUZHMADER_AREA];
+    int agreed = 0;
+    for (const polynomial *f = &polynomials[0][0][0]; f < &polynomials[0][0][0] + PRIMES * KINDS * EACH; f++) {
+        kuzhmader_outcome typed = kuzhmader_typed(f->line, f->line_length, sheet, KUZHMADER_AREA);
+        agreed += typed.count == f->sheet_length && memcmp(sheet, f->sheet, typed.count) == 0;
+    }
+    return agreed;
 }

@@ -1,11 +1,13 @@
 /* Times `kuzhmader_split` (the whole answer, from bytes to bytes) and FLINT's `nmod_poly_factor` (of the bar, modulo p) in one process on
  * the same polynomials of degree 32. A polynomial's time is the best of five rounds of repeated calls; a line has the medians over a kind.
- * Then `kuzhmader_copy` beside `kuzhmader_split` on the same ones; then the random ones, without 0x04 and with it, and a plain walk to the run
- * length, which is above 65,535 for nearly all of them.
- * Ends with status 1 if an answer disagrees with FLINT, a copy with the answer or a run length with the walk, or if 64 KiB of stack are not enough. */
+ * Then `kuzhmader_copy` beside `kuzhmader_split` on the same ones, and `kuzhmader_typed` on lines of them, and on one of powers; then the random ones,
+ * without 0x04 and with it, and a plain walk to the run length, which is above 65,535 for nearly all of them.
+ * Ends with status 1 if an answer disagrees with FLINT, a copy with the answer, a run length with the walk or a line with its sheet, or if 64 KiB of
+ * stack are not enough, 512 KiB for `kuzhmader_typed`. */
 #include <inttypes.h>
 #include <stdio.h>
 #include <stdlib.h>
+#include <string.h>
 #include <time.h>
 
 #include "bench.h"
@@ -14,6 +16,7 @@
 #define MOST_CALLS 64
 #define ROUND_NS 300000.0
 #define STACK_LIMIT (64 * 1024)
+#define TYPED_STACK_LIMIT (512 * 1024)
 
 static double now(void)
 {
@@ -40,6 +43,15 @@ static double split_calls(const polynomial *f, int calls)
 static double copy_calls(const polynomial *f, int calls)
 {
     return library_calls(kuzhmader_copy, f, calls);
+}
+
+static double typed_calls(const polynomial *f, int calls)
+{
+    static uint8_t area[KUZHMADER_AREA];
+    double start = now();
+    for (int i = 0; i < calls; i++)
+        kuzhmader_typed(f->line, f->line_length, area, KUZHMADER_AREA);
+    return now() - start;
 }
 
 /* Nanoseconds for some calls of FLINT; bar and factor structs are made before the clock starts and cleared after it stops. */
@@ -146,6 +158,17 @@ static void time_runs(unsigned p)
     fflush(stdout);
 }
 
+/* A line of 255 bytes that asks for much, 28 powers of degree 32; it is turned back only when all are worked out, since their sum is not monic. */
+static void time_powers(void)
+{
+    static polynomial f;
+    static const char first[] = "7:x", power[] = "+(x+6)^32";
+    memcpy(f.line, first, strlen(first));
+    for (f.line_length = strlen(first); f.line_length < LINE_BYTES; f.line_length += strlen(power))
+        memcpy(f.line + f.line_length, power, strlen(power));
+    printf("typed µs, a sum of 28 powers (x+6)^32, %zu bytes: %.1f\n", f.line_length, timed(typed_calls, &f));
+}
+
 /* How many of the answers or copies agree; the checksum of their bytes (FNV-1a) tells two builds apart. */
 static int compared(kuzhmader_call *call, const polynomial *f, int count, int (*good)(const polynomial *, const uint8_t *, size_t), uint64_t *checksum)
 {
@@ -171,12 +194,18 @@ int main(void)
     printf("parts that agree with FLINT %s: %d of %d, checksum of the answers %016" PRIx64 "\n", FLINT_VERSION, agreed, PRIMES * KINDS * EACH, checksum);
     printf("run lengths that agree with a walk: %d of %d, checksum of the answers %016" PRIx64 "\n", runs, PRIMES * EACH, of_runs);
     printf("copies that agree with the answers: %d of %d, checksum of the copies %016" PRIx64 "\n", copies, PRIMES * KINDS * EACH, of_copies);
+    int lines = lines_that_agree();
+    printf("typed lines that agree with their sheets: %d of %d\n", lines, PRIMES * KINDS * EACH);
     time_kinds("    library µs     FLINT µs", split_calls, flint_calls);
     time_kinds("       copy µs     split µs", copy_calls, split_calls);
+    time_kinds("      typed µs     split µs", typed_calls, split_calls);
+    time_powers();
     printf("prime  without 04 µs   with 04 µs       run µs      walk µs     table µs   medians of %d random polynomials of degree %d\n", EACH, DEGREE);
     for (unsigned p = 0; p < PRIMES; p++)
         time_runs(p);
-    size_t used = stack_of_answers(), by_copy = stack_of_copies();
-    printf("stack touched by split and read: %zu bytes, by copy: %zu, limit %d\n", used, by_copy, STACK_LIMIT);
-    return agreed != PRIMES * KINDS * EACH || runs != PRIMES * EACH || copies != PRIMES * KINDS * EACH || used >= STACK_LIMIT || by_copy >= STACK_LIMIT;
+    size_t used = stack_of_answers(), by_copy = stack_of_copies(), by_typed = stack_of_lines();
+    printf("stack touched by split and read: %zu bytes, by copy: %zu, limit %d; by typed: %zu, limit %d\n", used, by_copy, STACK_LIMIT, by_typed,
+           TYPED_STACK_LIMIT);
+    int all = PRIMES * KINDS * EACH, low = used < STACK_LIMIT && by_copy < STACK_LIMIT && by_typed < TYPED_STACK_LIMIT;
+    return agreed != all || runs != PRIMES * EACH || copies != all || lines != all || !low;
 }

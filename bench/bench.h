@@ -8,17 +8,20 @@
 
 #define DEGREE KUZHMADER_LIMIT
 #define SHEET_BYTES (6 + 3 * DEGREE)
+#define LINE_BYTES 255
 #define PRIMES 2
 #define KINDS 3
 #define EACH 200
 #define RUN_LIMIT 65535
 
-/* A monic polynomial of degree 32 modulo p², constant first, and its sheet. */
+/* A monic polynomial of degree 32 modulo p², constant first, its sheet, and a typed line of it: p:((..(x+c)*x+c)*x+..)*x+c. */
 typedef struct {
     unsigned prime;
     unsigned coefs[DEGREE + 1];
     uint8_t sheet[SHEET_BYTES];
     size_t sheet_length;
+    uint8_t line[LINE_BYTES];
+    size_t line_length;
 } polynomial;
 
 extern const unsigned primes[PRIMES];
@@ -46,8 +49,13 @@ unsigned table_walk(const polynomial *f);
 /* Whether an answer's run length is that of a walk. */
 int run_agrees(const polynomial *f, const uint8_t *answer, size_t length);
 
-/* Bytes of stack that splitting all polynomials, with 0x04 too, and reading all answers, touches at most; and copying them. */
+/* How many of the polynomials have the sheet that their line gives, byte for byte. */
+int lines_that_agree(void);
+
+/* Bytes of stack that splitting all polynomials, with 0x04 too, and reading all answers, touches at most; copying them; and typed lines, theirs and those
+   with as many brackets as a line holds. */
 size_t stack_of_answers(void);
 size_t stack_of_copies(void);
+size_t stack_of_lines(void);
 
 #endif

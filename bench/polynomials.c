@@ -1,4 +1,5 @@
 /* The polynomials of the benchmark, by a small generator with a fixed start (splitmix64). */
+#include <stdio.h>
 #include <string.h>
 
 #include "bench.h"
@@ -76,6 +77,20 @@ static void write_sheet(polynomial *f, int run)
     f->sheet_length = (size_t)(at - f->sheet);
 }
 
+/* A line of 223 bytes at most. */
+static void write_line(polynomial *f)
+{
+    char text[LINE_BYTES + 1];
+    int at = sprintf(text, "%u:", f->prime);
+    for (unsigned i = 1; i < DEGREE; i++)
+        text[at++] = '(';
+    at += sprintf(text + at, "x+%u", f->coefs[DEGREE - 1]);
+    for (unsigned i = DEGREE - 1; i > 0; i--)
+        at += sprintf(text + at, ")*x+%u", f->coefs[i - 1]);
+    memcpy(f->line, text, (size_t)at);
+    f->line_length = (size_t)at;
+}
+
 static void make(polynomial *f, unsigned prime, unsigned kind)
 {
     unsigned n = prime * prime;
@@ -87,6 +102,7 @@ static void make(polynomial *f, unsigned prime, unsigned kind)
     else
         make_powers(f->coefs, n);
     write_sheet(f, 0);
+    write_line(f);
 }
 
 /* The i-th random polynomial, its constant coefficient larger by 1 where p divides it. */

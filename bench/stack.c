@@ -6,7 +6,7 @@
 
 #include "bench.h"
 
-#define STACK (256 * 1024)
+#define STACK (1024 * 1024)
 #define PAINT 0xA5
 
 static uint8_t answers[2][KUZHMADER_AREA];
@@ -45,6 +45,29 @@ static void *copy_all(void *argument)
     return argument;
 }
 
+/* A line of 255 bytes that has open brackets behind its colon. It is turned back at its end, when the last bytes have been worked out inside of all of them. */
+static void type_brackets(const char *last)
+{
+    uint8_t line[LINE_BYTES];
+    size_t length = strlen(last);
+    memset(line, '(', sizeof line);
+    memcpy(line, "2:", 2);
+    memcpy(line + sizeof line - length, last, length);
+    kuzhmader_typed(line, sizeof line, answers[0], KUZHMADER_AREA);
+}
+
+static void *type_all(void *argument)
+{
+    static const char *const last[] = {"", "x", "x^2", "x*x", "x-x", "x^2*x-x"};
+    uint8_t here;
+    caller = (uintptr_t)&here;
+    for (const polynomial *f = &polynomials[0][0][0]; f < &polynomials[0][0][0] + PRIMES * KINDS * EACH; f++)
+        kuzhmader_typed(f->line, f->line_length, answers[0], KUZHMADER_AREA);
+    for (size_t i = 0; i < sizeof last / sizeof last[0]; i++)
+        type_brackets(last[i]);
+    return argument;
+}
+
 /* The stack grows down: what is not painted any more, from the lowest changed byte up to the caller's frame. */
 static size_t touched(void *(*calls)(void *))
 {
@@ -75,4 +98,9 @@ size_t stack_of_answers(void)
 size_t stack_of_copies(void)
 {
     return touched(copy_all);
+}
+
+size_t stack_of_lines(void)
+{
+    return touched(type_all);
 }

@@ -1,11 +1,11 @@
-/* Splits document 01's example, x³ + 6x² + 4 modulo 9, and asks for its run length; prints the answer as the program `split` does, reads the answer
- * back, and prints the bytes of the copy that purchasing may see. */
+/* Splits document 01's example, x³ + 6x² + 4 modulo 9, typed as it is spoken, and asks for its run length; prints the answer as the program `split` does,
+ * reads the answer back, and prints the bytes of the copy that purchasing may see. */
 #include <stdio.h>
 #include <string.h>
 
 #include "kuzhmader.h"
 
-static const uint8_t sheet[] = {0x01, 3, 0x02, 3, 0x03, 0, 4, 0x03, 2, 6, 0x04, 0x0F};
+static const char line[] = "3: (x+1)^2*(x+4)";
 
 static const char *const verdicts[] = {"", "basic", "solid", "power", "split"};
 
@@ -46,21 +46,38 @@ static void print_copy(const uint8_t *copy, size_t count)
     printf("\n");
 }
 
+static int refused(kuzhmader_outcome outcome)
+{
+    if (outcome.number != KUZHMADER_DONE)
+        printf("refused %u at %zu\n", outcome.number, outcome.place);
+    return outcome.number != KUZHMADER_DONE;
+}
+
+/* The sheet of the line, which ends with 0x0F, and 0x04 before that. Gives its length, 0 if the line is refused. */
+static size_t make_sheet(uint8_t sheet[KUZHMADER_AREA])
+{
+    kuzhmader_outcome typed = kuzhmader_typed_nullable((const uint8_t *)line, strlen(line), sheet, KUZHMADER_AREA);
+    if (refused(typed))
+        return 0;
+    sheet[typed.count - 1] = 0x04;
+    sheet[typed.count] = 0x0F;
+    return typed.count + 1;
+}
+
 int main(void)
 {
-    uint8_t answer[KUZHMADER_AREA], back[KUZHMADER_AREA], copy[KUZHMADER_AREA];
-    kuzhmader_outcome split = kuzhmader_split_nullable(sheet, sizeof sheet, answer, sizeof answer);
-    if (split.number != KUZHMADER_DONE) {
-        printf("refused %u at %zu\n", split.number, split.place);
+    uint8_t sheet[KUZHMADER_AREA], answer[KUZHMADER_AREA], back[KUZHMADER_AREA], copy[KUZHMADER_AREA];
+    size_t length = make_sheet(sheet);
+    kuzhmader_outcome split = kuzhmader_split_nullable(sheet, length, answer, sizeof answer);
+    if (length == 0 || refused(split))
         return 1;
-    }
     print_answer(answer);
     kuzhmader_outcome read = kuzhmader_read_nullable(answer, split.count, back, sizeof back);
-    if (read.count != sizeof sheet || memcmp(back, sheet, sizeof sheet) != 0) {
+    if (read.count != length || memcmp(back, sheet, length) != 0) {
         printf("the answer does not lead back to the sheet\n");
         return 1;
     }
-    kuzhmader_outcome copied = kuzhmader_copy_nullable(sheet, sizeof sheet, copy, sizeof copy);
+    kuzhmader_outcome copied = kuzhmader_copy_nullable(sheet, length, copy, sizeof copy);
     if (copied.number != KUZHMADER_DONE) {
         printf("no copy: refused %u\n", copied.number);
         return 1;

@@ -1,6 +1,6 @@
-//! Splits document 01's example, x³ + 6x² + 4 modulo 9, and asks for its run length; prints the answer as the program `split` does, reads the answer
-//! back, and prints the bytes of the copy that purchasing may see.
-//! `split`, `read` and `copy` here are safe: a slice is never null, and two slices of which one may be changed never overlap.
+//! Splits document 01's example, x³ + 6x² + 4 modulo 9, typed as it is spoken, and asks for its run length; prints the answer as the program `split` does,
+//! reads the answer back, and prints the bytes of the copy that purchasing may see.
+//! `split`, `read`, `copy` and `typed` here are safe: a slice is never null, and two slices of which one may be changed never overlap.
 
 /// Number, place and count, as in include/kuzhmader.h.
 #[repr(C)]
@@ -17,6 +17,7 @@ extern "C" {
     fn kuzhmader_split(sheet: *const u8, sheet_length: usize, area: *mut u8, area_length: usize) -> Outcome;
     fn kuzhmader_read(answer: *const u8, answer_length: usize, area: *mut u8, area_length: usize) -> Outcome;
     fn kuzhmader_copy(sheet: *const u8, sheet_length: usize, area: *mut u8, area_length: usize) -> Outcome;
+    fn kuzhmader_typed(line: *const u8, line_length: usize, area: *mut u8, area_length: usize) -> Outcome;
 }
 
 /// From a sheet to its answer.
@@ -34,7 +35,12 @@ fn copy(sheet: &[u8], area: &mut [u8]) -> Outcome {
     unsafe { kuzhmader_copy(sheet.as_ptr(), sheet.len(), area.as_mut_ptr(), area.len()) }
 }
 
-const SHEET: [u8; 12] = [0x01, 3, 0x02, 3, 0x03, 0, 4, 0x03, 2, 6, 0x04, 0x0F];
+/// From a line to its sheet.
+fn typed(line: &[u8], area: &mut [u8]) -> Outcome {
+    unsafe { kuzhmader_typed(line.as_ptr(), line.len(), area.as_mut_ptr(), area.len()) }
+}
+
+const LINE: &str = "3: (x+1)^2*(x+4)";
 const VERDICTS: [&str; 5] = ["", "basic", "solid", "power", "split"];
 
 /// Prints the factor that the answer begins with, and gives what follows its coefficients.
@@ -72,14 +78,23 @@ fn print_copy(bytes: &[u8]) {
     println!("copy{listed}");
 }
 
+/// The sheet of the line, which ends with 0x0F, and 0x04 before that.
+fn sheet_of_line() -> Vec<u8> {
+    let mut area = [0; AREA];
+    let outcome = typed(LINE.as_bytes(), &mut area);
+    assert_eq!((outcome.number, outcome.place), (0, 0), "the line is refused");
+    [&area[..outcome.count - 1], &[0x04, 0x0F]].concat()
+}
+
 fn main() {
     let (mut answer, mut back, mut shown) = ([0; AREA], [0; AREA], [0; AREA]);
-    let outcome = split(&SHEET, &mut answer);
+    let sheet = sheet_of_line();
+    let outcome = split(&sheet, &mut answer);
     assert_eq!((outcome.number, outcome.place), (0, 0), "the sheet is refused");
     print_answer(&answer[..outcome.count]);
     let outcome = read(&answer[..outcome.count], &mut back);
-    assert_eq!(&back[..outcome.count], &SHEET, "the answer does not lead back to the sheet");
-    let outcome = copy(&SHEET, &mut shown);
+    assert_eq!(&back[..outcome.count], &sheet, "the answer does not lead back to the sheet");
+    let outcome = copy(&sheet, &mut shown);
     assert_eq!(outcome.number, 0, "there is no copy");
     print_copy(&shown[..outcome.count]);
 }

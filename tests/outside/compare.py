@@ -4,6 +4,7 @@ usage: compare.py calls COUNT SEED FEED...    the calls by the command FEED.. (f
        compare.py alike COUNT SEED FEED...    copies of sheets that are alike in all that is shown, and of others, with one another
        compare.py split COUNT SEED PATH       the program `split` at PATH, once for each input
        compare.py copy COUNT SEED PATH        the program `copy`
+       compare.py sheet COUNT SEED PATH       the program `sheet`
 """
 
 import random
@@ -12,12 +13,12 @@ import sys
 import tempfile
 from typing import BinaryIO, Callable, Iterator
 
-from inputs import alike, calls, pools, some_sheet
+from inputs import alike, calls, pools, some_sheet, some_typed
 from sheet_cases import Call
-from splitter import Outcome, copy, copy_program, program, read, split
+from splitter import Outcome, copy, copy_program, program, read, sheet_program, split, typed
 
 SHOWN = 10
-CALLS = {"split": split, "read": read, "copy": copy}  # in the order of feed.c
+CALLS = {"split": split, "read": read, "copy": copy, "typed": typed}  # in the order of feed.c
 KNOWN: dict = {}
 
 
@@ -99,12 +100,16 @@ def text_of(data: bytes) -> bytes:
     return "".join(line + "\n" for line in program(data)).encode("ascii")
 
 
-def compare_program(given_out: Callable, count: int, seed: str, path: str) -> int:
+# The programs: what each gives out, as the reference has it, and what it is given.
+PROGRAMS = {"split": (text_of, some_sheet), "copy": (copy_program, some_sheet), "sheet": (sheet_program, some_typed)}
+
+
+def compare_program(given_out: Callable, some_input: Callable, count: int, seed: str, path: str) -> int:
     """Runs the program once for each input. Gives the number of differences."""
     source = random.Random(seed)
     pool, differences, refusals = pools(source), 0, 0
     for _ in range(count):
-        data = some_sheet(source, pool)
+        data = some_input(source, pool)
         due = given_out(data)
         found = subprocess.run([path], input=data, stdout=subprocess.PIPE).stdout
         refusals += due.startswith(b"refused")
@@ -119,10 +124,10 @@ def main(what: str, count: int, seed: str, command: list) -> int:
     """Does what the command line says. Gives the number of differences."""
     if what in ("calls", "alike"):
         return (compare_calls if what == "calls" else compare_alike)(count, seed, command)
-    return compare_program(text_of if what == "split" else copy_program, count, seed, command[0])
+    return compare_program(*PROGRAMS[what], count, seed, command[0])
 
 
 if __name__ == "__main__":
-    if len(sys.argv) < 5 or sys.argv[1] not in ("calls", "alike", "split", "copy"):
+    if len(sys.argv) < 5 or sys.argv[1] not in ("calls", "alike", *PROGRAMS):
         sys.exit(__doc__)
     sys.exit(main(sys.argv[1], int(sys.argv[2]), sys.argv[3], sys.argv[4:]) != 0)

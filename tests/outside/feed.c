@@ -1,15 +1,15 @@
 /* Makes the calls that standard input holds and writes their outcomes to standard output.
  *
- * A call is a byte, 0 for kuzhmader_split, 1 for kuzhmader_read and 2 for kuzhmader_copy, then the length of the input and that of the area, two
- * bytes each, low byte first, then the input. An outcome is the number, place and count in two bytes each, a byte that is 1 if the call changed its input
- * or a byte of the area past the count, and the bytes written. */
+ * A call is a byte, 0 for kuzhmader_split, 1 for kuzhmader_read, 2 for kuzhmader_copy and 3 for kuzhmader_typed, then the length of the input and that of
+ * the area, two bytes each, low byte first, then the input. An outcome is the number, place and count in two bytes each, a byte that is 1 if the call
+ * changed its input or a byte of the area past the count, and the bytes written. */
 #include <stdio.h>
 #include <stdlib.h>
 #include <string.h>
 
 #include "kuzhmader.h"
 
-static kuzhmader_call *const calls[] = {kuzhmader_split, kuzhmader_read, kuzhmader_copy};
+static kuzhmader_call *const calls[] = {kuzhmader_split, kuzhmader_read, kuzhmader_copy, kuzhmader_typed};
 
 static uint8_t paint(size_t place)
 {

@@ -1,5 +1,5 @@
-"""Inputs for the built library: good sheets and answers of all kinds, with 0x04 and 0x14 and without, damaged ones, random bytes, and sheets that are
-alike in all that a copy shows."""
+"""Inputs for the built library: good sheets, answers and typed lines of all kinds, sheets and answers with 0x04 and 0x14 and without, damaged ones, random
+bytes, and sheets that are alike in all that a copy shows."""
 
 import random
 from typing import Iterator, NamedTuple, Sequence
@@ -8,22 +8,25 @@ from answers import RUN_LENGTH, answer_bytes
 from arithmetic import LIMIT, TAKEN_PRIMES
 from byte_strings import TELLING, damaged, some_bytes
 from known_figures import drawn_shapes, pairs_of, sheets_with
+from known_lines import any_line, damaged_line, some_line, some_signs
 from polynomial_cases import all_sheets, some_monic
 from sheet_cases import AREAS, Call, short_sheets
 from sheets import END, RUN, Refusal, Sheet, read_sheet, sheet_bytes
 from splitter import AREA
+from typed_value_cases import NUMBERS
 
 COMMANDS = (0, 1, 2, 3, 4, 15, 17, 18, 19, 20)
 
 
 class Pools(NamedTuple):
-    """What inputs are made from: good sheets of all kinds, short ones, those of degree 32, each with 0x04 or without, and answers."""
+    """What inputs are made from: good sheets of all kinds, short ones, those of degree 32, each with 0x04 or without, answers, and lines."""
 
     sheets: list
     short: list
     full: list
     answers: list
     runs: list
+    lines: list
 
 
 def asking(data: bytes) -> bytes:
@@ -51,7 +54,8 @@ def pools(source: random.Random) -> Pools:
     full = [sheet_bytes(Sheet(p, some_monic(source, p * p, LIMIT))) for p in TAKEN_PRIMES for _ in range(50)]
     answers = [answer_bytes(read_sheet(data)) for data in source.sample(good, 1500) + short[:1500] + full]
     runs = [answer_bytes(read_sheet(data)) for data in asked[:700] + accepted(map(asking, short[:1500])) + accepted(map(asking, full[::4]))]
-    return Pools(good + asked, short + [asking(data) for data in short[::2]], full + [asking(data) for data in full[::2]], answers + runs, runs)
+    lines = [some_line(source) for _ in range(4000)] + [any_line(source) for _ in range(2000)]
+    return Pools(good + asked, short + [asking(data) for data in short[::2]], full + [asking(data) for data in full[::2]], answers + runs, runs, lines)
 
 
 def some_area(source: random.Random) -> int:
@@ -108,12 +112,40 @@ def some_answer(source: random.Random, pool: Pools) -> bytes:
     return picked(source, kinds)
 
 
+def longer(source: random.Random, line: bytes) -> bytes:
+    """A line drawn out to some 255 bytes: blanks or zeros at a place, or itself again and again in a sum or a product."""
+    most = source.choice((255, source.randrange(200, 300)))
+    place, sign = source.randrange(len(line)), source.choice((b" ", b"0", b"(", b"1", b"x"))
+    body = line.split(b":", 1)[1].strip(b" ")
+    joined = line + (source.choice((b"+", b"-", b"*0+", b"*")) + b"(" + body + b")") * (most // (len(body) + 3))
+    return source.choice((line[:place] + sign * (most - len(line)) + line[place:], joined[:most], joined))
+
+
+def with_number(source: random.Random, line: bytes) -> bytes:
+    """A line with another number at its end: as a term, a factor or an exponent, or as its prime."""
+    number = str(source.choice((*NUMBERS, source.randrange(100000)))).encode("ascii")
+    return source.choice((line + source.choice((b"+", b"-", b"*", b"^", b"+x^", b" + 0 * ")) + number, number + b":" + line.split(b":", 1)[1]))
+
+
+def some_typed(source: random.Random, pool: Pools) -> bytes:
+    """A string for typed lines: three in ten are lines, four in ten damaged ones, some with other numbers, some about 255 bytes long, the rest random."""
+    kinds = (
+        (30, lambda: source.choice(pool.lines)),
+        (40, lambda: damaged_line(source, source.choice(pool.lines))),
+        (10, lambda: with_number(source, source.choice(pool.lines))),
+        (5, lambda: longer(source, source.choice(pool.lines))),
+        (10, lambda: some_signs(source, 20)),
+        (3, lambda: some_bytes(source, source.randrange(20), range(256))),
+        (2, lambda: source.choice(pool.lines) + source.randbytes(source.randrange(1, 2000))),
+    )
+    return picked(source, kinds)
+
+
 def calls(source: random.Random, count: int) -> Iterator[tuple]:
-    """So many calls, each with its name: half are splits, three in ten are read, two in ten are copies."""
-    pool = pools(source)
-    for name in source.choices(("split", "read", "copy"), (5, 3, 2), k=count):
-        data = some_answer(source, pool) if name == "read" else some_sheet(source, pool)
-        yield name, Call(data, some_area(source))
+    """So many calls, each with its name: four in ten are splits, three in ten are read, two in ten are typed, one in ten is a copy."""
+    pool, inputs = pools(source), {"read": some_answer, "typed": some_typed}
+    for name in source.choices(("split", "read", "copy", "typed"), (4, 3, 1, 2), k=count):
+        yield name, Call(inputs.get(name, some_sheet)(source, pool), some_area(source))
 
 
 def number_of(data: bytes) -> int:

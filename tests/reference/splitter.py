@@ -1,9 +1,10 @@
-"""The three calls on bytes and the programs `split` and `copy` of documents 01 and 02.
+"""The four calls on bytes and the programs `split`, `copy` and `sheet` of documents 01 and 02.
 
-Run as a program it reads a sheet from standard input and prints the lines, or gives out the copy's bytes:
+Run as a program it reads a sheet from standard input and prints the lines, or gives out the copy's bytes; or it reads a typed line and gives out its sheet:
 
     python3 tests/reference/splitter.py < SHEET
     python3 tests/reference/splitter.py copy < SHEET
+    python3 tests/reference/splitter.py sheet < LINE
 """
 
 import sys
@@ -15,6 +16,7 @@ from parts import WORDS, parts_of, totals_of
 from polynomials import degree
 from run_lengths import run_length
 from sheets import Refusal, Sheet, read_sheet, sheet_bytes
+from typed_lines import sheet_of_line
 
 AREA = 384
 
@@ -66,6 +68,16 @@ def copy(sheet: bytes, area: bytes) -> Outcome:
         return refused(area, refusal.number, 0)
 
 
+def typed(line: bytes, area: bytes) -> Outcome:
+    """From a typed line to its sheet. "The sheet goes into an answer area, as from the answer reader." """
+    if len(area) < AREA:
+        return refused(area, 1, 0)
+    try:
+        return written(area, sheet_bytes(sheet_of_line(line)))
+    except Refusal as refusal:
+        return refused(area, refusal.number, refusal.place)
+
+
 def lines_of(sheet: Sheet) -> list:
     """The lines that `split` prints for an accepted sheet; "`run` and the number as its last line" where the sheet asks for it."""
     parts = parts_of(sheet.prime, sheet.polynomial)
@@ -93,9 +105,17 @@ def copy_program(data: bytes) -> bytes:
         return b"refused %d at 0\n" % refusal.number
 
 
+def sheet_program(data: bytes) -> bytes:
+    """What `sheet` gives out for these bytes of standard input: the sheet's bytes, or the line of a refusal."""
+    try:
+        return sheet_bytes(sheet_of_line(data))
+    except Refusal as refusal:
+        return b"refused %d at %d\n" % (refusal.number, refusal.place)
+
+
 if __name__ == "__main__":
     given = sys.stdin.buffer.read()
-    if sys.argv[1:] == ["copy"]:
-        sys.stdout.buffer.write(copy_program(given))
+    if sys.argv[1:] in (["copy"], ["sheet"]):
+        sys.stdout.buffer.write((copy_program if sys.argv[1] == "copy" else sheet_program)(given))
     else:
         print("\n".join(program(given)))

@@ -131,10 +131,13 @@ module _ (n : ℕ) where
   pub constant-residue-one : constant {𝓡 = Residues n} (residue n 1) ≡ 𝟏
   constant-residue-one = ap constant (residue-one n) ∙ constant-one (Residues n)
 
+  pub poly-single : (a : ℕ) → poly n (a ∷ []) ≡ constant (residue n a)
+  poly-single a =
+      poly-cons a [] ∙ ap (λ h. constant (residue n a) +ᴿ x · h) poly-nil
+      ∙ solve (𝓩[x]/ n) 2 (λ c x. c ⊕ x ⊗ con 0 ≈ c) tt (constant (residue n a)) x
+
   pub poly-one : poly n (1 ∷ []) ≡ 𝟏
-  poly-one =
-      poly-cons 1 [] ∙ ap₂ (λ c h. c +ᴿ x · h) constant-residue-one poly-nil
-      ∙ solve (𝓩[x]/ n) 1 (λ x. con 1 ⊕ x ⊗ con 0 ≈ con 1) tt x
+  poly-one = poly-single 1 ∙ constant-residue-one
 
   pub poly-x : poly n (0 ∷ 1 ∷ []) ≡ x
   poly-x = poly-zero-cons (1 ∷ []) ∙ ap (λ h. x · h) poly-one ∙ mul-one (𝓩[x]/ n) x

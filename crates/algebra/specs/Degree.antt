@@ -168,5 +168,10 @@ module _ {R : Type 0} {𝓡 : CommRing R} where
   monic-pow {d} {g} m zero = rw (pow-zero (PolyRing 𝓡) g, zero-mul d) monic-one
   monic-pow {d} {g} m (suc k) = rw (pow-suc (PolyRing 𝓡) g k, suc-mul k d, add-comm (k * d) d) (monic-mul m (monic-pow m k))
 
+  pub below-pow : {d : ℕ} {g : Poly 𝓡} → Below (suc d) g → (k : ℕ) → Below (suc (k * d)) (pow (PolyRing 𝓡) g k)
+  below-pow {d} {g} h zero = rw (pow-zero (PolyRing 𝓡) g, zero-mul d) (monic-one .below)
+  below-pow {d} {g} h (suc k) =
+      rw (pow-suc (PolyRing 𝓡) g k) (below-up (let e : suc d + k * d ≤ suc (suc k * d) = omega arith in e) (below-mul h (below-pow h k)))
+
   pub monic-pow-x : (k : ℕ) → Monic k (pow (PolyRing 𝓡) x k)
   monic-pow-x k = rw (mul-oneℕ k) at (monic-pow monic-x k)

@@ -1,12 +1,12 @@
 -- An array with one more term: c stored at i, where there was 0.
--- Proves that it holds the polynomial with c·x^i more. Assumes nothing.
+-- Proves that it holds the polynomial with c·x^i more, and that zeros with c stored at 0 hold c. Assumes nothing.
 use mathlib.Core.Path.{_≡_, sym, _∙_, ap, ap₂, subst}
-use mathlib.Core.List.{List}
+use mathlib.Core.List.{List, [], _∷_}
 use mathlib.Core.Logic.{_≢_, ⊎-elim}
-use Prim.Native.Nat.{ℕ, _<_}
+use Prim.Native.Nat.{ℕ, zero, suc, _<_}
 use native.Mathlib.Decide.{ℕ-discrete}
 use native.Mathlib.Omega.{arith}
-use lib.ListN.{getD, set, length-set}
+use lib.ListN.{getD, set, replicate, length-set, length-replicate}
 use lib.Seq.{getD-set-same, getD-set-other}
 use Rattle.algebra.specs.Numbers.{lt-or-le}
 use Rattle.algebra.specs.Ring.{add-zero, mul-zero, mul-one, zero-add}
@@ -14,8 +14,10 @@ use Rattle.algebra.specs.Residues.{residue, Residues, residue-zero}
 use Rattle.algebra.specs.PolynomialRing.{_+ᴿ_, _·_, constant, poly-ext}
 use Rattle.algebra.specs.Degree.{monic-pow-x}
 use Rattle.algebra.specs.CoefficientLists.{poly, Reduced, coef-poly}
+use Rattle.algebra.specs.ListShapes.{getD-zeros}
 use Rattle.algebra.specs.Monomials.{x^, coef-power-low}
-use Rattle.arrays.specs.Represents.{Represents, coef-added}
+use Rattle.arrays.specs.Represents.{Represents, zeros, coef-added}
+use Rattle.arrays.specs.SameEntries.{same-poly}
 
 module _ (n : ℕ) {q : List ℕ} (i : ℕ) {c : ℕ} (r : Reduced n 33 q) (fits : i < 33) (free : getD q i 0 ≡ 0) (low : c < n) where
   here : getD (set q i c) i 0 ≡ c
@@ -50,3 +52,14 @@ module _ (n : ℕ) {q : List ℕ} (i : ℕ) {c : ℕ} (r : Reduced n 33 q) (fits
     reduced = record { len = length-set q i c ∙ r .len; low = λ k. below k (ℕ-discrete k i) };
     is = poly-ext (λ k. coef-poly n (set q i c) k ∙ at k (ℕ-discrete k i));
   }
+
+-- the array of a constant
+pub constant-set : (n : ℕ) {c : ℕ} → c < n → Represents n (set (replicate 33 0) 0 c) (poly n (c ∷ []))
+constant-set n {c} low = record {
+  reduced = term-set n 0 (zeros n (omega arith) .reduced) (omega arith) (getD-zeros 33 0) low .reduced;
+  is = same-poly n (set (replicate 33 0) 0 c) (c ∷ []) at;
+}
+  where
+    at : (k : ℕ) → getD (set (replicate 33 0) 0 c) k 0 ≡ getD (c ∷ []) k 0
+    at zero = getD-set-same (replicate 33 0) 0 c 0 (omega (arith, length-replicate {A = ℕ} 33 0))
+    at (suc k) = getD-set-other (replicate 33 0) 0 (suc k) c 0 (omega arith) ∙ getD-zeros 33 (suc k)

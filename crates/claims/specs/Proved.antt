@@ -1,6 +1,7 @@
--- The promises of documents 00, 01 and 02 about every accepted sheet, as the claims of `specification` state them.
+-- The promises of documents 00, 01 and 02 about every accepted sheet and every typed line, as the claims of `specification` state them.
 -- Proves term 3 of the answer's bytes and of a call, items 1 to 9, what is read off an answer, the degrees, the settings, the run length, the answer's
--- size and bytes, which sheets are taken, that inputs too long are refused, the reader, and what copies are and show. Assumes nothing.
+-- size and bytes, which sheets are taken, that inputs too long are refused, the reader, what copies are and show, and how typed lines are read and answered.
+-- Assumes nothing.
 use mathlib.Core.Path.{_≡_, refl, sym, _∙_, ap, subst}
 use mathlib.Core.Logic.{_↔_}
 use mathlib.Core.List.{List, [], _∷_}
@@ -28,6 +29,10 @@ use Rattle.specification.specs.SheetClaims.{AnswersFit, Fits, GoodSheet, LongIn
 use Rattle.specification.specs.Settings.{Settings}
 use Rattle.specification.specs.RunClaims.{Run, Runs, RunsShown, NoRun}
 use Rattle.specification.specs.CopyClaims.{Sorts, FiguresReadOff, copy, CopiesShow, CopiesFit, AlikeCopies, NothingElseSeen}
+use Rattle.specification.specs.Grammar.{Tree, Line}
+use Rattle.specification.specs.TypedLines.{Typed}
+use Rattle.specification.specs.TypedClaims.{OneReading, LineOrPlace, AnyPart, OneOutcome, SheetsTyped, RefusalsInCase, typedSheet}
+use Rattle.specification.specs.TypedTrials.{TypedTrials}
 use Rattle.algebra.specs.Numbers.{square-large}
 use Rattle.algebra.specs.Fields.{Prime, taken-prime}
 use Rattle.lists.specs.Members.{_∈_, All, all-map}
@@ -55,6 +60,12 @@ use Rattle.copies.specs.CopyReadBack as read
 use Rattle.copies.specs.CopySize.{copy-fits}
 use Rattle.copies.specs.CopiesHold as seen
 use Rattle.copies.specs.CopiesHold.{copying, alike-exactly}
+use Rattle.grammar.specs.Readings as readings
+use Rattle.grammar.specs.TreeParts as parts
+use Rattle.grammar.specs.TypedOutcomes as outcomes
+use Rattle.grammar.specs.TypedSheets as typed
+use Rattle.grammar.specs.TypedRefusals as refusals
+use Rattle.grammar.specs.Trials as trials
 
 module _ (s : Sheet) (g : GoodSheet s) where
   abbrev p : ℕ
@@ -260,3 +271,38 @@ alike-copies b c s t e f = alike-exactly s t
 
 pub nothing-else-seen : NothingElseSeen
 nothing-else-seen = seen.nothing-else-seen
+
+-- ---- typed lines
+
+-- "and its reading is the only one"
+pub one-reading : OneReading
+one-reading = readings.one-reading
+
+-- "A line passes 15 exactly when that grammar gives it"
+pub line-or-place : LineOrPlace
+line-or-place = readings.line-or-place
+
+pub any-part : AnyPart
+any-part = parts.any-part
+
+pub one-outcome : OneOutcome
+one-outcome = outcomes.one-outcome
+
+pub sheets-typed : SheetsTyped
+sheets-typed = typed.sheets-typed
+
+-- the sheet of a line is taken, as the sheet of what the line means
+pub typed-accepted : (area : ℕ) (line bytes : List ℕ) (p : ℕ) (t : Tree) → Line line p t → Typed area line (success bytes)
+    → readSheet bytes ≡ accepted (typedSheet p t)
+typed-accepted area line bytes p t v w =
+    let s = typed.line-sheet w in
+    let same = one-reading line p (s .prime) t (s .tree) v (s .read) in
+    sheets-taken bytes (typedSheet (s .prime) (s .tree)) .1 (s .good, s .is)
+    ∙ sym (ap (λ (q : ℕ). accepted (typedSheet q t)) (same .0) ∙ ap (λ (u : Tree). accepted (typedSheet (s .prime) u)) (same .1))
+
+-- "Each is given in its case and in no other"
+pub refusals-in-case : RefusalsInCase
+refusals-in-case = refusals.refusals-in-case
+
+pub typed-trials : TypedTrials
+typed-trials = trials.typed-trials

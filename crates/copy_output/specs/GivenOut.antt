@@ -77,7 +77,7 @@ module _ (sheet : List ℕ) {r : Outcome} {old new : List ℕ} (l : answerArea �
     pub line-room : (at : ℕ) → at ≤ sheetLimit → Room new 0 (refusalText (r .number) at)
     line-room at u =
         subst (λ (area : List ℕ). Room area 0 (refusalText (r .number) at)) (sym same)
-        (sized-room (refusal-line (r .number) at (line-is .1) u) (omega arith))
+        (sized-room (refusal-line (r .number) at (omega (arith, line-is .1)) (omega arith)) (omega arith))
 
     pub line-out : {newer : List ℕ} {after : ℕ} → Wrote new newer 0 line after → Wrote old newer 0 (copied sheet) after
     line-out {newer} {after} w = wrote-as (line-is .0) (subst (λ (area : List ℕ). Wrote area newer 0 line after) same w)

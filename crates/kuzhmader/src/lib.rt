@@ -3,7 +3,7 @@
 ghost use lib.ListN.{length};
 ghost use Rattle.specification.specs.Calls.{splitCall, readCall};
 ghost use Rattle.specification.specs.Copy.{copyCall};
-ghost use Rattle.splitter.specs.Outcomes.{Called};
+ghost use Rattle.splitter.specs.Outcomes.{Called, TypedCall};
 use splitter::Outcome;
 
 // `splitter::split` for C.
@@ -28,4 +28,12 @@ pub extern "C" fn kuzhmader_copy(sheet: &[u8], area: &mut [u8]) -> Outcome
     ensures { λ r. ⌜ Called (copyCall (length (now (area .entry))) (now (sheet .entry))) r (now (area .entry)) (now (area .exit)) ⌝ }
 {
     splitter::copy(sheet, area)
+}
+
+// `splitter::typed` for C.
+#[no_mangle]
+pub extern "C" fn kuzhmader_typed(line: &[u8], area: &mut [u8]) -> Outcome
+    ensures { λ r. ⌜ TypedCall (now (line .entry)) r (now (area .entry)) (now (area .exit)) ⌝ }
+{
+    splitter::typed(line, area)
 }

@@ -18,7 +18,7 @@ use Rattle.algebra.specs.Numbers.{lt-or-le}
 use Rattle.lists.specs.Tests.{passes, left, right}
 use Rattle.lists.specs.AllAny.{all-at}
 use Rattle.algebra.specs.CoefficientLists.{Reduced}
-use Rattle.polynomial.proofs.RecordLaws.{length-trim-le}
+use Rattle.arrays.specs.Trimming.{length-trim-le}
 
 pub proper-prime : (a : PolyRecord) → proper a ≡ true → taken (a .prime) ≡ true
 unfolding proper

@@ -18,7 +18,8 @@ use Rattle.arrays.specs.Represents.{Represents}
 use Rattle.arrays.specs.Sizes.{Size}
 use Rattle.division.specs.DivisionLoop.{DividedBy}
 use Rattle.polynomial.specs.AsRecord.{divided, refusedDivision}
-use Rattle.polynomial.proofs.RecordLaws.{poly-trim, length-trim, length-trim-le, ListOf, array-is}
+use Rattle.arrays.specs.Trimming.{poly-trim, length-trim, length-trim-le}
+use Rattle.polynomial.proofs.RecordLaws.{ListOf, array-is}
 use Rattle.polynomial.proofs.Accepted.{Pair, division-accepted}
 use Rattle.polynomial.proofs.Results.{positive}
 

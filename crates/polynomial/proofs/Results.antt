@@ -14,7 +14,8 @@ use Rattle.algebra.specs.CoefficientLists.{ℤ[x]/, poly, poly-add, poly-sub, p
 use Rattle.algebra.specs.ListShapes.{length-add, length-sub, length-reduce, length-times, low-reduce}
 use Rattle.arrays.specs.Represents.{Represents}
 use Rattle.polynomial.specs.AsRecord.{accepted, refused}
-use Rattle.polynomial.proofs.RecordLaws.{poly-trim, ListOf, array-is}
+use Rattle.arrays.specs.Trimming.{poly-trim}
+use Rattle.polynomial.proofs.RecordLaws.{ListOf, array-is}
 use Rattle.polynomial.proofs.Accepted.{Pair, pair-accepted, product-accepted}
 
 times-nil : (f : List ℕ) → spec.times f [] ≡ []

@@ -16,6 +16,8 @@ pub mod Answers
 pub mod FactorList
 pub mod Calls
 pub mod Copy
+pub mod Grammar
+pub mod TypedLines
 pub mod Longest
 pub mod Term3
 pub mod Items1to3
@@ -26,9 +28,13 @@ pub mod RunClaims
 pub mod SheetClaims
 pub mod ReaderClaims
 pub mod CopyClaims
+pub mod TypedClaims
 pub mod Text
 pub mod Open
 pub mod Trials
 pub mod RunTrials
 pub mod Edges
 pub mod CopyTrials
+pub mod TypedTrials
+pub mod GrammarExamples
+pub mod TreeTrials

@@ -1,4 +1,5 @@
--- The figures that documents 01 and 02 settle: the primes, the highest degree, the length of the answer area, the longest run.
+-- The figures that documents 01 and 02 settle: the primes, the highest degree, the length of the answer area, the longest run, the limits of typed
+-- lines.
 -- No other definition has them as figures.
 use Prim.Native.Nat.{ℕ, suc, _*_}
 use mathlib.Core.Bool.{Bool}
@@ -34,6 +35,16 @@ answerArea = 384
 -- "from 1 to 65,535": the longest run that an answer shows
 abbrev pub runLimit : ℕ
 runLimit = 65535
+
+-- 16: "a line over 255 bytes", "a number over 65,535 or an exponent over 32"
+abbrev pub lineLimit : ℕ
+lineLimit = 255
+
+abbrev pub numberLimit : ℕ
+numberLimit = 65535
+
+abbrev pub exponentLimit : ℕ
+exponentLimit = 32
 
 -- "the zero polynomial of prime 2", which refused calls give back
 abbrev pub refusedPrime : ℕ

@@ -20,8 +20,9 @@ use Rattle.specification.specs.Answers.{factorCommands, partCommands, ru
 use Rattle.specification.specs.FactorList.{withCoefficients, factorsIn, factorList, factorTotal, differentTotal, freeTotal, runIn}
 use Rattle.specification.specs.Calls.{answerTo, splitCall, sheetIn, isAnswerTo, readCall}
 use Rattle.specification.specs.Copy.{insert, sorted, pairsOf, figuresOf, copyCommands, copyOf, visible, shown, copyCall}
+use Rattle.specification.specs.TypedLines.{meaning, anyPart, isLarge, isHigh, isPattern, valued, worked}
 use Rattle.specification.specs.Text.{lastDigits, decimal, headText, coefficientText, factorText, partText, totalText, partsText, answerText}
-use Rattle.specification.specs.Text.{runText, refusalText, printed, copied}
+use Rattle.specification.specs.Text.{runText, refusalText, printed, copied, sent}
 
 unfoldable pub everything : Unit {0}
 unfolding
@@ -45,5 +46,6 @@ unfolding
     withCoefficients factorsIn factorList factorTotal differentTotal freeTotal runIn
     answerTo splitCall sheetIn isAnswerTo readCall
     insert sorted pairsOf figuresOf copyCommands copyOf visible shown copyCall
-    lastDigits decimal headText coefficientText factorText partText totalText partsText answerText runText refusalText printed copied
+    meaning anyPart isLarge isHigh isPattern valued worked
+    lastDigits decimal headText coefficientText factorText partText totalText partsText answerText runText refusalText printed copied sent
 everything = tt

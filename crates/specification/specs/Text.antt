@@ -1,17 +1,22 @@
--- The text that the program `split` prints for the bytes it is given, in ASCII: `printed`; and what the program `copy` gives out: `copied`.
+-- The text that the program `split` prints for the bytes it is given, in ASCII: `printed`; what the program `copy` gives
+-- out: `copied`; and what the program `sheet` gives out for a typed line: `SheetSent`.
 -- Numbers are in base ten; a space stands between words and numbers, and each line ends with a line feed.
+use mathlib.Core.Path.{_≡_}
 use Prim.Native.Nat.{ℕ, zero, suc, _+_, _/_, _%_}
 use Prim.Native.Char.{code}
 use Prim.Native.String as string
 use mathlib.Core.Bool.{true, false, cond}
 use mathlib.Core.List.{List, [], _∷_, _++_, flatMap}
-use lib.Dec.{ltb}
+use lib.Dec.{eqb, ltb}
+use Rattle.specification.specs.Limits.{answerArea}
 use Rattle.specification.specs.Polynomials.{Poly, degree}
 use Rattle.specification.specs.Parts.{Verdict, basic, solid, power, split, Factor, Part, partsOf}
 use Rattle.specification.specs.Totals.{Totals, totalsOf}
 use Rattle.specification.specs.RunLength.{runLength}
 use Rattle.specification.specs.Sheets.{Sheet, accepted, fault, readSheet}
+use Rattle.specification.specs.Calls.{Outcome}
 use Rattle.specification.specs.Copy.{Visible, figures, number, copyOf, visible}
+use Rattle.specification.specs.TypedLines.{Typed}
 
 -- ---- words and numbers
 
@@ -97,3 +102,11 @@ givenOut (number k) = refusalText k 0
 -- it reads a sheet as `split` does: what it gives out for the bytes there
 unfoldable pub copied : List ℕ → List ℕ
 copied bytes = givenOut (visible (readSheet bytes))
+
+-- the program `sheet` gives out the bytes that its call wrote, or the line of a refusal
+unfoldable pub sent : Outcome → List ℕ
+sent o = cond (eqb (o .number) 0) (o .bytes) (refusalText (o .number) (o .place))
+
+-- it reads a typed line: bytes that it gives out for the line
+abbrev pub SheetSent : List ℕ → List ℕ → Type 0
+SheetSent line bytes = (o : Outcome) × Typed answerArea line o × (bytes ≡ sent o)

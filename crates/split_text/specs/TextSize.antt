@@ -165,10 +165,9 @@ answer-sized s g =
     sized-within (omega arith) (sized-parts (square-fits-byte p t) s (sheetParts s) prime (omega (arith, g .fits)) (shapes s g) low)
 
 -- a line of 19 bytes at most
-pub refusal-line : (k at : ℕ) → k ≤ lastNumber → at ≤ sheetLimit → Sized 19 (refusalText k at)
+pub refusal-line : (k at : ℕ) → k < 1000 → at < 1000 → Sized 19 (refusalText k at)
 unfolding refusalText allPass
-refusal-line k at l u =
-    sized-append (sized-append (sized-item "refused " tt k (omega arith)) (sized-item " at " tt at (omega arith))) (sized-word "\n" tt)
+refusal-line k at l u = sized-append (sized-append (sized-item "refused " tt k l) (sized-item " at " tt at u)) (sized-word "\n" tt)
 
 pub refusal-sized : (k at : ℕ) → k ≤ lastNumber → at ≤ sheetLimit → Sized textRoom (refusalText k at)
-refusal-sized k at l u = sized-within (omega arith) (refusal-line k at l u)
+refusal-sized k at l u = sized-within (omega arith) (refusal-line k at (omega arith) (omega arith))

@@ -1,1 +1,2 @@
 pub mod ReadCall
+pub mod TypedCalls

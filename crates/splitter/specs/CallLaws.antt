@@ -99,7 +99,7 @@ module _ (Own : ℕ → ℕ → Type 0) (r : Outcome) (old new : List ℕ) where
   abbrev pub Settles : calls.Outcome → Type 0
   Settles o = Called o r old new → Settled Own r old new
 
-  settled-short : length old < answerArea → Settles (calls.refused 1 0)
+  pub settled-short : length old < answerArea → Settles (calls.refused 1 0)
   settled-short l h = record {
     number = inl (omega (arith, h .number));
     place = λ k. h .place;

@@ -1,3 +1,4 @@
 pub mod Outcomes
 pub mod CallLaws
 pub mod CopyLaws
+pub mod TypedLaws

@@ -3,6 +3,7 @@
 use mathlib.Core.Path.{_≡_, sym, _∙_, ap}
 use mathlib.Core.List.{List}
 use Prim.Native.Nat.{ℕ, _≤_, _<_}
+use lib.ListN.{length}
 use borrow.Author.Tests.{lt-ltb, le-ltb}
 use Rattle.specification.specs.Limits.{answerArea}
 use Rattle.specification.specs.Sheets.{Sheet, accepted, fault, readSheet}
@@ -10,6 +11,7 @@ use Rattle.specification.specs.Answers.{answer}
 use Rattle.specification.specs.Calls as calls
 use Rattle.specification.specs.Copy.{copyCall}
 use Rattle.specification.specs.CopyClaims.{copy}
+use Rattle.specification.specs.TypedLines.{Typed}
 use Rattle.copies.specs.CopiesHold.{call-shown, shown-refused, shown-accepted}
 use Rattle.area.specs.Wrote.{Wrote, wrote-from-start}
 use Rattle.splitter.specs.declared.Outcome.{Outcome}
@@ -28,6 +30,12 @@ pub record Called (o : calls.Outcome) (r : Outcome) (old new : List ℕ) : Type 
   pub count : r .count ≡ calls.count o
   -- the bytes written, and after them the old ones
   pub area : new ≡ calls.areaAfter o old
+
+-- of a typed line: its outcome is the one that `Typed` fixes
+pub record TypedCall (line : List ℕ) (r : Outcome) (old new : List ℕ) : Type 0 where
+  pub outcome : calls.Outcome
+  pub typed : Typed (length old) line outcome
+  pub called : Called outcome r old new
 
 -- "changes no byte of the answer area"
 pub called-refused : {o : calls.Outcome} {k at : ℕ} {r : Outcome} {area : List ℕ} → o ≡ calls.refused k at → IsRefused k at r → Called o r area area

@@ -1,4 +1,5 @@
-// The library's entry points on bytes: a sheet in and its answer out, or its copy for purchasing; an answer in and its sheet out. None has a `requires`.
+// The library's entry points on bytes: a sheet in and its answer out, or its copy for purchasing; an answer in and its sheet out; a typed line in and its
+// sheet out. None has a `requires`.
 // Each says of every outcome the number, the place, the count and every byte of the area; the bytes that are read are lent and stay as they are.
 ghost use mathlib.Core.Path.{_≡_};
 ghost use Prim.Native.Nat.{_≤_};
@@ -13,11 +14,12 @@ ghost use Rattle.commands.specs.AsSheet.{asSheet};
 ghost use Rattle.lists.specs.Decides.{Decides};
 ghost use Rattle.arrays.specs.Held.{MonicModSquare};
 ghost use Rattle.area.specs.Wrote.{Wrote};
-ghost use Rattle.splitter.specs.Outcomes.{IsSuccess, IsRefused, Called};
+ghost use Rattle.splitter.specs.Outcomes.{IsSuccess, IsRefused, Called, TypedCall};
 use answer_reader::find_candidate;
 use commands::Sheet;
 use copy_writer::sorted_pairs;
 use copy_writer::write_copy;
+use line_reader::read_line;
 use sheet_reader::read_sheet;
 use sheet_writer::write_sheet;
 
@@ -155,4 +157,19 @@ pub fn read(bytes: &[u8], area: &mut [u8]) -> Outcome
         }
     }
     refused(9, 0)
+}
+
+// The sheet of a typed line, written into the area.
+pub fn typed(line: &[u8], area: &mut [u8]) -> Outcome
+    ensures { λ r. ⌜ TypedCall (now (line .entry)) r (now (area .entry)) (now (area .exit)) ⌝ }
+{
+    if area.len() < AREA {
+        return refused(1, 0);
+    }
+    let given = read_line(line);
+    if given.number != 0 {
+        return refused(given.number, given.place);
+    }
+    let s = given.sheet;
+    success(write_sheet(area, s))
 }

@@ -11,7 +11,7 @@ use Rattle.algebra.specs.Numbers.{lt-or-le}
 use Rattle.arrays.specs.Sizes.{Size}
 use Rattle.arrays.specs.Held.{MonicModSquare}
 use Rattle.polynomial.proofs.Accepted.{proper-prime, proper-reduced}
-use Rattle.polynomial.proofs.RecordLaws.{length-trim}
+use Rattle.arrays.specs.Trimming.{length-trim}
 use Rattle.polynomial.proofs.DivisionResult.{monic-size, monic-array}
 
 -- a proper record of a monic polynomial of degree 1 or more

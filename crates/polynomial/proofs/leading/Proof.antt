@@ -3,7 +3,7 @@
 use mathlib.Core.Path.{sym, _∙_}
 use native.Mathlib.Omega.{arith}
 use borrow.Author.Needs.{needs}
-use Rattle.polynomial.proofs.RecordLaws.{leading-trim}
+use Rattle.arrays.specs.Trimming.{leading-trim}
 use Rattle.polynomial.proofs.leading.Statement.{statement}
 use Rattle.polynomial.proofs.leading.Tie as tie
 

@@ -5,7 +5,7 @@ use native.Mathlib.Omega.{arith}
 use borrow.Author.Needs.{needs}
 use Rattle.specification.specs.Records.{productOf}
 use Rattle.arrays.specs.Sizes.{below-size}
-use Rattle.polynomial.proofs.RecordLaws.{length-trim}
+use Rattle.arrays.specs.Trimming.{length-trim}
 use Rattle.polynomial.proofs.Accepted.{product-accepted}
 use Rattle.polynomial.proofs.Results.{result-refused, product-is}
 use Rattle.polynomial.proofs.mul.Statement.{statement}

@@ -10,7 +10,7 @@ use borrow.Author.Tests.{lt-ltb, le-ltb}
 use Rattle.specification.specs.Records.{PolyRecord, pairNumber, productNumber}
 use Rattle.lists.specs.Cases.{cases}
 use Rattle.arrays.specs.Sizes.{Size}
-use Rattle.polynomial.proofs.RecordLaws.{length-trim}
+use Rattle.arrays.specs.Trimming.{length-trim}
 use Rattle.polynomial.proofs.product_number.Statement.{statement}
 use Rattle.polynomial.proofs.product_number.Tie as tie
 

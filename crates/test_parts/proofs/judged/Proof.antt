@@ -3,7 +3,7 @@
 use mathlib.Core.Path.{sym, _∙_}
 use native.Mathlib.Omega.{arith}
 use borrow.Author.Needs.{needs}
-use Rattle.polynomial.proofs.RecordLaws.{length-trim}
+use Rattle.arrays.specs.Trimming.{length-trim}
 use Rattle.test_parts.proofs.judged.Statement.{statement}
 use Rattle.test_parts.proofs.judged.Tie as tie
 

@@ -1,0 +1,13 @@
+pub mod Machine
+pub mod Runs
+pub mod Stuck
+pub mod Standing
+pub mod Completes
+pub mod Stopping
+pub mod Readings
+pub mod Meanings
+pub mod TypedOutcomes
+pub mod TreeParts
+pub mod TypedSheets
+pub mod TypedRefusals
+pub mod Trials

@@ -1,0 +1,5 @@
+mod Bytes
+mod Behind
+mod Pieces
+mod Judging
+mod Lines

@@ -1,0 +1,3 @@
+pub mod Levels
+pub mod Contracts
+pub mod Gives

@@ -1,0 +1,6 @@
+mod Judging
+mod Pieces
+mod Sums
+mod Products
+mod Powers
+mod Raising
