@@ -8,7 +8,7 @@ Run as a program it reads a sheet from standard input and prints the lines, or g
 """
 
 import sys
-from typing import NamedTuple
+from typing import Callable, NamedTuple
 
 from answers import answer_bytes, sheet_of_answer
 from copies import copy_bytes, figures_of
@@ -40,14 +40,19 @@ def refused(area: bytes, number: int, place: int) -> Outcome:
     return Outcome(number, place, 0, area)
 
 
-def split(sheet: bytes, area: bytes) -> Outcome:
-    """From a sheet to its answer. "Number 1 comes before all." """
+def called(area: bytes, result: Callable[[], bytes]) -> Outcome:
+    """What a call gives whose result may be refused. "Number 1 comes before all." """
     if len(area) < AREA:
         return refused(area, 1, 0)
     try:
-        return written(area, answer_bytes(read_sheet(sheet)))
+        return written(area, result())
     except Refusal as refusal:
         return refused(area, refusal.number, refusal.place)
+
+
+def split(sheet: bytes, area: bytes) -> Outcome:
+    """From a sheet to its answer."""
+    return called(area, lambda: answer_bytes(read_sheet(sheet)))
 
 
 def read(answer: bytes, area: bytes) -> Outcome:
@@ -60,22 +65,12 @@ def read(answer: bytes, area: bytes) -> Outcome:
 
 def copy(sheet: bytes, area: bytes) -> Outcome:
     """From a sheet to its copy for purchasing. "A refused sheet shows its number with place 0 and writes nothing." """
-    if len(area) < AREA:
-        return refused(area, 1, 0)
-    try:
-        return written(area, copy_bytes(figures_of(read_sheet(sheet))))
-    except Refusal as refusal:
-        return refused(area, refusal.number, 0)
+    return called(area, lambda: copy_bytes(figures_of(read_sheet(sheet))))._replace(place=0)
 
 
 def typed(line: bytes, area: bytes) -> Outcome:
     """From a typed line to its sheet. "The sheet goes into an answer area, as from the answer reader." """
-    if len(area) < AREA:
-        return refused(area, 1, 0)
-    try:
-        return written(area, sheet_bytes(sheet_of_line(line)))
-    except Refusal as refusal:
-        return refused(area, refusal.number, refusal.place)
+    return called(area, lambda: sheet_bytes(sheet_of_line(line)))
 
 
 def lines_of(sheet: Sheet) -> list:

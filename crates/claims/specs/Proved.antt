@@ -296,7 +296,7 @@ pub typed-accepted : (area : ℕ) (line bytes : List ℕ) (p : ℕ) (t : Tree) �
     → readSheet bytes ≡ accepted (typedSheet p t)
 typed-accepted area line bytes p t v w =
     let s = typed.line-sheet w in
-    let same = one-reading line p (s .prime) t (s .tree) v (s .read) in
+    let same = one-reading line p (s .prime) t (s .tree) v (s .readAs .read) in
     sheets-taken bytes (typedSheet (s .prime) (s .tree)) .1 (s .good, s .is)
     ∙ sym (ap (λ (q : ℕ). accepted (typedSheet q t)) (same .0) ∙ ap (λ (u : Tree). accepted (typedSheet (s .prime) u)) (same .1))
 

@@ -6,6 +6,7 @@ pub mod Completes
 pub mod Stopping
 pub mod Readings
 pub mod Meanings
+pub mod WorkedLines
 pub mod TypedOutcomes
 pub mod TreeParts
 pub mod TypedSheets

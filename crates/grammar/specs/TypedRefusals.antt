@@ -1,8 +1,8 @@
 -- Which lines are turned back with which number, in plain words.
 -- Proves `RefusalsInCase`: 15, 16, 4 and 17 are each given in their case and in no other. Assumes nothing.
 use mathlib.Core.Path.{_≡_, refl, sym, ap, subst, _∙_}
-use mathlib.Core.Logic.{_⊎_, inl, inr}
-use mathlib.Core.Bool.{Bool, true, false, not, _||_, false≢true}
+use mathlib.Core.Logic.{inl, inr}
+use mathlib.Core.Bool.{Bool, true, false, not, false≢true}
 use mathlib.Core.List.{List}
 use Prim.Native.Nat.{ℕ, _≤_}
 use native.Mathlib.Omega.{arith}
@@ -12,12 +12,16 @@ use Rattle.specification.specs.Limits.{taken, answerArea, numberLimit}
 use Rattle.specification.specs.SheetClaims.{GoodSheet}
 use Rattle.specification.specs.Calls.{Outcome, refused}
 use Rattle.specification.specs.Grammar.{Tree}
-use Rattle.specification.specs.TypedLines.{NoLine, meaning, anyPart, isLarge, isHigh, isPattern, valued, worked}
+use Rattle.specification.specs.TypedLines.{NoLine, meaning, anyPart, isLarge, isHigh, isPattern, worked}
 use Rattle.specification.specs.TypedLines.{Typed, shortArea, longLine, noLine, isLine}
 use Rattle.specification.specs.TypedClaims.{Small, Low, typedSheet, NotALine, TooLarge, PrimeNotTaken, NoPattern, RefusalsInCase}
 use Rattle.lists.specs.Tests.{neither}
 use Rattle.grammar.specs.TreeParts.{small-is, small-parts, low-is, low-parts}
+use Rattle.grammar.specs.WorkedLines.{tooLarge, tooHigh, worked-large, worked-no-prime, worked-prime, valued-high, valued-sheet}
 use Rattle.grammar.specs.TypedSheets.{pattern-good, good-pattern}
+
+number-is : {o q : Outcome} → o ≡ q → o .number ≡ q .number
+number-is e = ap (λ (o : Outcome). o .number) e
 
 -- ---- a line that is read
 
@@ -29,62 +33,38 @@ data Case (p : ℕ) (t : Tree) : Type 0 where
   sheet : Small p t → taken p ≡ true → Low p t → GoodSheet (typedSheet p t) → worked p t .number ≡ 0 → Case p t
 
 module _ (p : ℕ) (t : Tree) where
-  abbrev tooLarge : Bool
-  tooLarge = ltb numberLimit p || anyPart isLarge t
-
-  abbrev tooHigh : Bool
-  tooHigh = anyPart (isHigh p) t || not (isPattern (meaning p t))
-
-  large-case : tooLarge ≡ true → Small p t → ⊥
+  large-case : tooLarge p t ≡ true → Small p t → ⊥
   large-case e s = false≢true (sym (small-false s) ∙ e)
     where
-      small-false : Small p t → tooLarge ≡ false
+      small-false : Small p t → tooLarge p t ≡ false
       small-false s = rw (le-ltb numberLimit p (s .prime), small-parts s)
 
-  small-case : tooLarge ≡ false → Small p t
+  small-case : tooLarge p t ≡ false → Small p t
   small-case e = let s = neither (ltb numberLimit p) (anyPart isLarge t) e in small-is (ltb-false numberLimit p (s .0)) (s .1)
 
-  high-case : tooHigh ≡ true → Low p t → GoodSheet (typedSheet p t) → ⊥
+  high-case : tooHigh p t ≡ true → Low p t → GoodSheet (typedSheet p t) → ⊥
   high-case e l g = false≢true (sym (high-false l g) ∙ e)
     where
-      high-false : Low p t → GoodSheet (typedSheet p t) → tooHigh ≡ false
+      high-false : Low p t → GoodSheet (typedSheet p t) → tooHigh p t ≡ false
       high-false l g = rw (low-parts l, good-pattern p t g)
 
-  worked-large : tooLarge ≡ true → worked p t ≡ refused 16 0
-  unfolding worked
-  worked-large e = rw e
-
-  worked-no-prime : tooLarge ≡ false → taken p ≡ false → worked p t ≡ refused 4 0
-  unfolding worked
-  worked-no-prime e f = rw (e, f)
-
-  worked-high : tooLarge ≡ false → taken p ≡ true → tooHigh ≡ true → worked p t ≡ refused 17 0
-  unfolding worked valued
-  worked-high e f g = rw (e, f, g)
-
-  worked-sheet : tooLarge ≡ false → taken p ≡ true → tooHigh ≡ false → worked p t .number ≡ 0
-  unfolding worked valued
-  worked-sheet e f g = rw (e, f, g)
-
   cases : Case p t
-  cases = at tooLarge (taken p) tooHigh refl refl refl
+  cases = at (tooLarge p t) (taken p) (tooHigh p t) refl refl refl
     where
-      at : (l q h : Bool) → tooLarge ≡ l → taken p ≡ q → tooHigh ≡ h → Case p t
-      at true q h e f g = large (large-case e) (worked-large e)
-      at false false h e f g = no-prime (small-case e) f (worked-no-prime e f)
-      at false true true e f g = no-pattern (small-case e) f (high-case g) (worked-high e f g)
+      at : (l q h : Bool) → tooLarge p t ≡ l → taken p ≡ q → tooHigh p t ≡ h → Case p t
+      at true q h e f g = large (large-case e) (worked-large p t e)
+      at false false h e f g = no-prime (small-case e) f (worked-no-prime p t e f)
+      at false true true e f g = no-pattern (small-case e) f (high-case g) (worked-prime p t e f ∙ valued-high p t g)
       at false true false e f g =
           let q = neither (anyPart (isHigh p) t) (not (isPattern (meaning p t))) g in
-          sheet (small-case e) f (low-is (q .0)) (pattern-good p t f (not-false (isPattern (meaning p t)) (q .1))) (worked-sheet e f g)
+          sheet (small-case e) f (low-is (q .0)) (pattern-good p t f (not-false (isPattern (meaning p t)) (q .1)))
+          (number-is (worked-prime p t e f ∙ valued-sheet p t g))
 
 -- ---- any line
 
 -- a refusal is not another outcome
 unlike : {A : Type 0} (j : ℕ) {at : ℕ} {o : Outcome} {k : ℕ} → refused j at ≡ o → o .number ≡ k → (j ≡ k → ⊥) → A
 unlike j e f ne = absurd (ne (ap (λ (o : Outcome). o .number) e ∙ f))
-
-number-is : {o q : Outcome} → o ≡ q → o .number ≡ q .number
-number-is e = ap (λ (o : Outcome). o .number) e
 
 module _ {area : ℕ} (long : answerArea ≤ area) {line : List ℕ} where
   -- 15

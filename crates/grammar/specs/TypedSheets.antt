@@ -1,7 +1,7 @@
 -- Which typed lines get a sheet, and which sheet it is.
 -- Proves that the sheet of a tree is a good one exactly where the prime is taken and the value is "monic of degree 1 to 32", and `SheetsTyped`.
 -- Assumes nothing.
-use mathlib.Core.Path.{_≡_, refl, sym, ap, subst}
+use mathlib.Core.Path.{_≡_, refl, sym, ap, subst, _∙_}
 use mathlib.Core.Bool.{Bool, true, false, not, cond, _&&_, _||_, false≢true}
 use mathlib.Core.List.{List}
 use Prim.Native.Nat.{ℕ, suc, _≤_, _<_}
@@ -21,6 +21,7 @@ use Rattle.specification.specs.TypedClaims.{typedSheet, SheetOfLine, SheetsType
 use Rattle.lists.specs.Tests.{passes, both, left, right, neither}
 use Rattle.arrays.specs.Trimming.{getD-trim}
 use Rattle.grammar.specs.Meanings.{meaning-low}
+use Rattle.grammar.specs.WorkedLines.{tooLarge, tooHigh, worked-prime, valued-sheet}
 use Rattle.grammar.specs.TreeParts.{true-passes, small-is, small-parts, low-is, low-parts}
 
 -- ---- the sheet of a tree
@@ -69,22 +70,21 @@ module _ {bytes : List ℕ} {o : Outcome} (k : ℕ) where
   passed false e = absurd (let z : 0 ≡ suc k = ap (λ (o : Outcome). o .number) e in omega (arith, z))
 
 record Passed (p : ℕ) (t : Tree) (bytes : List ℕ) : Type 0 where
-  small : (ltb numberLimit p || anyPart isLarge t) ≡ false
+  small : tooLarge p t ≡ false
   prime : taken p ≡ true
-  low : (anyPart (isHigh p) t || not (isPattern (meaning p t))) ≡ false
+  low : tooHigh p t ≡ false
   is : bytes ≡ sheetBytes (typedSheet p t)
 
 worked-passed : {p : ℕ} {t : Tree} {bytes : List ℕ} → success bytes ≡ worked p t → Passed p t bytes
 unfolding worked valued
 worked-passed {p} {t} e =
-    let a = not-refused 15 (ltb numberLimit p || anyPart isLarge t) e in
+    let a = not-refused 15 (tooLarge p t) e in
     let b = passed 3 (taken p) (a .1) in
-    let c = not-refused 16 (anyPart (isHigh p) t || not (isPattern (meaning p t))) (b .1) in
+    let c = not-refused 16 (tooHigh p t) (b .1) in
     record { small = a .0; prime = b .0; low = c .0; is = ap (λ (o : Outcome). o .bytes) (c .1) }
 
 passed-worked : {p : ℕ} {t : Tree} {bytes : List ℕ} → Passed p t bytes → success bytes ≡ worked p t
-unfolding worked valued
-passed-worked h = rw (h .small, h .prime, h .low) (ap success (h .is))
+passed-worked {p} {t} h = ap success (h .is) ∙ sym (worked-prime p t (h .small) (h .prime) ∙ valued-sheet p t (h .low))
 
 module _ {line bytes : List ℕ} where
   pub line-sheet : {area : ℕ} → Typed area line (success bytes) → SheetOfLine line bytes
@@ -98,8 +98,7 @@ module _ {line bytes : List ℕ} where
       record {
         prime = p;
         tree = t;
-        read = v;
-        short = w;
+        readAs = record { short = w; read = v };
         small = small-is (ltb-false numberLimit p (s .0)) (s .1);
         low = low-is (q .0);
         good = pattern-good p t (h .prime) (not-false (isPattern (meaning p t)) (q .1));
@@ -108,7 +107,7 @@ module _ {line bytes : List ℕ} where
 
   sheet-line : {area : ℕ} → answerArea ≤ area → SheetOfLine line bytes → Typed area line (success bytes)
   sheet-line l s =
-      isLine l (s .short) (s .read) (passed-worked (record {
+      isLine l (s .readAs .short) (s .readAs .read) (passed-worked (record {
         small = neither-passes (le-ltb numberLimit (s .prime) (s .small .prime)) (small-parts (s .small));
         prime = good-prime (s .prime) (s .tree) (s .good);
         low = neither-passes (low-parts (s .low)) (ap not (good-pattern (s .prime) (s .tree) (s .good)));

@@ -7,12 +7,12 @@ use mathlib.Core.List.{List}
 use Prim.Native.Nat.{ℕ, _-_, _≤_, _<_}
 use native.Mathlib.Decide.{ℕ-discrete}
 use native.Mathlib.Omega.{arith}
-use borrow.Author.Tests.{lt-ltb, le-ltb, le-leb, eq-eqb, ne-eqb}
-use lib.Dec.{eqb}
+use borrow.Author.Tests.{lt-ltb, le-ltb, le-leb, ne-eqb}
+use lib.Dec.{eqb, ltb}
 use lib.ListN.{length, getD}
 use Rattle.specification.specs.Lists.{anyPasses}
 use Rattle.specification.specs.Limits.{taken, primes, _², degreeLimit, numberLimit}
-use Rattle.specification.specs.Polynomials.{Poly, degree, leading}
+use Rattle.specification.specs.Polynomials.{degree, leading}
 use Rattle.specification.specs.Records.{trim}
 use Rattle.specification.specs.Sheets.{Sheet, sheetOf, sheetBytes}
 use Rattle.specification.specs.SheetClaims.{GoodSheet}
@@ -28,9 +28,10 @@ use Rattle.arrays.specs.Sizes.{Size}
 use Rattle.arrays.specs.Listed.{listed}
 use Rattle.arrays.specs.Trimming.{same-trim, length-trim, leading-trim, trim-listed}
 use Rattle.grammar.specs.Meanings.{meaning-low}
+use Rattle.grammar.specs.WorkedLines.{tooLarge, tooHigh, worked-large, worked-no-prime, worked-prime, valued-high, valued-sheet}
 use Rattle.grammar.specs.TypedSheets.{pattern-good}
 use Rattle.line_values.specs.declared.Piece.{Piece}
-use Rattle.line_values.specs.Worth.{held, judged, treeNumber, Worth}
+use Rattle.line_values.specs.Worth.{held, Worth}
 use Rattle.line_values.specs.HeldNumbers.{held-small, held-limit, held-under, number-large, number-small, number-high, number-low}
 use Rattle.line_reader.specs.declared.TypedLine.{TypedLine}
 use Rattle.line_reader.specs.Gives.{Gives, IsTurnedBack, PatternOf, PrimeIn, StandIn, WorkedOut}
@@ -76,17 +77,14 @@ stand-in-taken {v} {p} {m} h s = at (ℕ-discrete p 0)
 -- ---- the value
 
 module _ (p : ℕ) (t : Tree) where
-  valued-no : isPattern (meaning p t) ≡ false → lines.valued p t ≡ calls.refused 17 0
-  unfolding lines.valued
-  valued-no e = rw (e, or-true (anyPart (isHigh p) t))
+  high-other : isPattern (meaning p t) ≡ false → tooHigh p t ≡ true
+  high-other e = rw e (or-true (anyPart (isHigh p) t))
 
-  valued-high : anyPart (isHigh p) t ≡ true → lines.valued p t ≡ calls.refused 17 0
-  unfolding lines.valued
-  valued-high e = rw e
+  high-part : anyPart (isHigh p) t ≡ true → tooHigh p t ≡ true
+  high-part e = rw e
 
-  valued-yes : anyPart (isHigh p) t ≡ false → isPattern (meaning p t) ≡ true → lines.valued p t ≡ calls.success (sheetBytes (typedSheet p t))
-  unfolding lines.valued
-  valued-yes low is = rw (low, is)
+  not-high : anyPart (isHigh p) t ≡ false → isPattern (meaning p t) ≡ true → tooHigh p t ≡ false
+  not-high low is = rw (low, is)
 
 module _ {s : ℕ} {f : List ℕ} (z : Size f s) where
   -- what the tree means, without its zeros, is the array without its own
@@ -118,7 +116,7 @@ module _ {s : ℕ} {f : List ℕ} (z : Size f s) where
   no-pattern : {p : ℕ} {r : TypedLine} → IsTurnedBack 17 0 r
       → ((t : Tree) → taken p ≡ true → Represents (p ²) f (poly (p ²) (meaning p t)) → isPattern (meaning p t) ≡ false) → PatternOf p f r
   no-pattern {p} i none = record {
-    gives = λ t prime h low. gives-as (valued-no p t (none t prime h)) (gives-refused (λ e. omega (arith, e)) i);
+    gives = λ t prime h low. gives-as (valued-high p t (high-other p t (none t prime h))) (gives-refused (λ e. omega (arith, e)) i);
   }
 
   pub pattern-constant : {p : ℕ} {r : TypedLine} → s < 2 → IsTurnedBack 17 0 r → PatternOf p f r
@@ -135,7 +133,7 @@ module _ {s : ℕ} {f : List ℕ} (z : Size f s) where
         let is = sheet-is p t prime h (omega arith) in
         record {
           refused = λ ne. absurd (ne refl);
-          success = λ _. valued-yes p t low good ∙ ap (λ (q : Sheet). calls.success (sheetBytes q)) is;
+          success = λ _. valued-sheet p t (not-high p t low good) ∙ ap (λ (q : Sheet). calls.success (sheetBytes q)) is;
           good = λ _. (subst GoodSheet is (pattern-good p t prime good), omega (arith, z .limit));
         };
   }
@@ -143,22 +141,14 @@ module _ {s : ℕ} {f : List ℕ} (z : Size f s) where
 -- ---- all checks, in their order
 
 module _ (q : ℕ) (t : Tree) where
-  worked-large : numberLimit < q → lines.worked q t ≡ calls.refused 16 0
-  unfolding lines.worked
-  worked-large l = rw (lt-ltb numberLimit q l)
+  large-number : numberLimit < q → tooLarge q t ≡ true
+  large-number l = rw (lt-ltb numberLimit q l)
 
-  worked-large-part : anyPart isLarge t ≡ true → lines.worked q t ≡ calls.refused 16 0
-  unfolding lines.worked
-  worked-large-part e = rw (e, or-true _)
+  large-part : anyPart isLarge t ≡ true → tooLarge q t ≡ true
+  large-part e = rw e (or-true (ltb numberLimit q))
 
-  module _ (l : q ≤ numberLimit) (small : anyPart isLarge t ≡ false) where
-    worked-no-prime : taken q ≡ false → lines.worked q t ≡ calls.refused 4 0
-    unfolding lines.worked
-    worked-no-prime e = rw (le-ltb numberLimit q l, small, e)
-
-    worked-prime : taken q ≡ true → lines.worked q t ≡ lines.valued q t
-    unfolding lines.worked
-    worked-prime e = rw (le-ltb numberLimit q l, small, e)
+  not-large : q ≤ numberLimit → anyPart isLarge t ≡ false → tooLarge q t ≡ false
+  not-large l small = rw (le-ltb numberLimit q l, small)
 
 -- a number that is held under the limit is held as it is
 number-is : {v : ℕ} → v ≤ numberLimit → (q : ℕ) → v ≡ held q → v ≡ q
@@ -167,12 +157,13 @@ number-is l q e = e ∙ held-small q (held-under q (subst (λ (k : ℕ). k ≤ n
 module _ {v p : ℕ} {whole : Piece} where
   pub judged-large : {r : TypedLine} → numberLimit < v → IsTurnedBack 16 0 r → WorkedOut v p whole r
   judged-large l i = record {
-    gives = λ q m t e h s w. gives-as (worked-large q t (held-limit q (subst (λ (k : ℕ). numberLimit < k) e l))) (gives-refused (λ z. omega (arith, z)) i);
+    gives = λ q m t e h s w.
+        gives-as (worked-large q t (large-number q t (held-limit q (subst (λ (k : ℕ). numberLimit < k) e l)))) (gives-refused (λ z. omega (arith, z)) i);
   }
 
   pub judged-large-part : {r : TypedLine} → whole .number ≡ 16 → IsTurnedBack 16 0 r → WorkedOut v p whole r
   judged-large-part k i = record {
-    gives = λ q m t e h s w. gives-as (worked-large-part q t (number-large w k)) (gives-refused (λ z. omega (arith, z)) i);
+    gives = λ q m t e h s w. gives-as (worked-large q t (large-part q t (number-large w k))) (gives-refused (λ z. omega (arith, z)) i);
   }
 
   module _ (l : v ≤ numberLimit) (ne : whole .number ≢ 16) where
@@ -180,7 +171,7 @@ module _ {v p : ℕ} {whole : Piece} where
     judged-no-prime z i = record {
       gives = λ q m t e h s w.
           let is = number-is l q e in
-          gives-as (worked-no-prime q t (omega (arith, l, is)) (number-small w ne) (ap taken (sym is) ∙ h .none z))
+          gives-as (worked-no-prime q t (not-large q t (omega (arith, l, is)) (number-small w ne)) (ap taken (sym is) ∙ h .none z))
           (gives-refused (λ z. omega (arith, z)) i);
     }
 
@@ -190,13 +181,13 @@ module _ {v p : ℕ} {whole : Piece} where
       valued-is q t e h w =
           let is = number-is l q e in
           let same = sym is ∙ h .prime some .1 in
-          worked-prime q t (omega (arith, l, is)) (number-small w ne) (ap taken same ∙ h .prime some .0)
+          worked-prime q t (not-large q t (omega (arith, l, is)) (number-small w ne)) (ap taken same ∙ h .prime some .0)
           ∙ ap (λ (k : ℕ). lines.valued k t) same
 
       pub judged-high : {r : TypedLine} → whole .number ≢ 0 → IsTurnedBack 17 0 r → WorkedOut v p whole r
       judged-high k i = record {
         gives = λ q m t e h s w.
-            gives-as (valued-is q t e h w ∙ valued-high p t (subst (λ (n : ℕ). anyPart (isHigh n) t ≡ true) (s .own some) (number-high w ne k)))
+            gives-as (valued-is q t e h w ∙ valued-high p t (high-part p t (subst (λ (n : ℕ). anyPart (isHigh n) t ≡ true) (s .own some) (number-high w ne k))))
             (gives-refused (λ z. omega (arith, z)) i);
       }
 

@@ -69,6 +69,11 @@ pub record Answering (area : ℕ) (line : List ℕ) : Type 0 where
 abbrev pub OneOutcome : Type 0
 OneOutcome = (area : ℕ) (line : List ℕ) → Answering area line
 
+-- a line of 255 bytes or less that is read as this prime and this tree
+pub record ReadAs (line : List ℕ) (p : ℕ) (t : Tree) : Type 0 where
+  pub short : length line ≤ lineLimit
+  pub read : Line line p t
+
 -- the sheet that a tree means
 abbrev pub typedSheet : ℕ → Tree → Sheet
 typedSheet p t = sheetOf p (trim (meaning p t))
@@ -77,8 +82,7 @@ typedSheet p t = sheetOf p (trim (meaning p t))
 pub record SheetOfLine (line bytes : List ℕ) : Type 0 where
   pub prime : ℕ
   pub tree : Tree
-  pub read : Line line prime tree
-  pub short : length line ≤ lineLimit
+  pub readAs : ReadAs line prime tree
   pub small : Small prime tree
   pub low : Low prime tree
   -- a taken prime and "monic of degree 1 to 32"
@@ -89,11 +93,6 @@ abbrev pub SheetsTyped : Type 0
 SheetsTyped = (area : ℕ) → answerArea ≤ area → (line bytes : List ℕ) → Typed area line (success bytes) ↔ SheetOfLine line bytes
 
 -- ---- turned back
-
--- a line of 255 bytes or less that is read as this prime and this tree
-pub record ReadAs (line : List ℕ) (p : ℕ) (t : Tree) : Type 0 where
-  pub short : length line ≤ lineLimit
-  pub read : Line line p t
 
 -- 15, with its place
 abbrev pub NotALine : List ℕ → ℕ → Type 0
