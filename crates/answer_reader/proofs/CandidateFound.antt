@@ -28,7 +28,7 @@ use Rattle.layouts.specs.CommandsReadBack.{WellFormed}
 use Rattle.layouts.specs.AnswerReadBack.{head-back, run-shown}
 use Rattle.layouts.specs.GoodSheets.{asked-good}
 use Rattle.commands.specs.AsSheet.{constant-decides}
-use Rattle.part_list.proofs.ArrayPieces.{listed-monic}
+use Rattle.part_values.specs.ArrayLists.{listed-monic}
 use Rattle.answer_reader.specs.declared.Candidate.{Candidate}
 use Rattle.answer_reader.specs.declared.Grown.{Grown}
 use Rattle.layouts.specs.CommandPlaces.{commandAt, operands-there, operand-at}

@@ -28,7 +28,7 @@ use Rattle.commands.specs.declared.Sheet.{Sheet}
 use Rattle.commands.specs.AsSheet.{asSheet}
 use Rattle.part_verdict.specs.declared.Part.{Part}
 use Rattle.part_verdict.specs.AsPart.{asPart}
-use Rattle.part_verdict.specs.ByItems.{PartHeld}
+use Rattle.part_verdict.specs.PartHeld.{PartHeld}
 use Rattle.part_list.specs.declared.Parts.{Parts}
 use Rattle.part_list.specs.HeldParts.{held}
 use Rattle.area.specs.Wrote.{Room, room-as}

@@ -1,6 +1,7 @@
 -- The promises of documents 00, 01 and 02 about every accepted sheet and every typed line, as the claims of `specification` state them.
--- Proves term 3 of the answer's bytes and of a call, items 1 to 9, what is read off an answer, the degrees, the settings, the run length, the answer's
--- size and bytes, which sheets are taken, that inputs too long are refused, the reader, what copies are and show, and how typed lines are read and answered.
+-- Proves term 3 of the answer's bytes and of a call, items 1 to 9 and that Algorithm 4.5 splits alike, what is read off an answer, the degrees, the
+-- settings, the run length, the answer's size and bytes, which sheets are taken, that inputs too long are refused, the reader, what copies are and show, and
+-- how typed lines are read and answered.
 -- Assumes nothing.
 use mathlib.Core.Path.{_≡_, refl, sym, _∙_, ap, subst}
 use mathlib.Core.Logic.{_↔_}
@@ -22,6 +23,7 @@ use Rattle.specification.specs.Calls.{Outcome, success, splitCall, readCall, co
 use Rattle.specification.specs.ReadOff.{AnswersReadOff, DegreesAddUp, degreeSum}
 use Rattle.specification.specs.Items1to3.{Items1to3}
 use Rattle.specification.specs.Items4to9.{Items4to9}
+use Rattle.specification.specs.Algorithm45.{AsPrinted}
 use Rattle.specification.specs.Term3.{LongestIn, Term3, Term3Call}
 use Rattle.specification.specs.Longest as claimed
 use Rattle.specification.specs.ReaderClaims.{AnswerTo, ReaderExact, ReaderRefuses}
@@ -42,6 +44,7 @@ use Rattle.items.specs.Reductions.{digit-lift}
 use Rattle.items.specs.Items1to3Hold.{items}
 use Rattle.items.specs.PartForm.{base-monic}
 use Rattle.items.specs.PartValues.{values}
+use Rattle.items.specs.AlgorithmOrder as algorithm
 use Rattle.layouts.specs.SheetsRead.{read-is-good, read-is-written, accepted-exactly}
 use Rattle.layouts.specs.SheetLength.{fault-place, long-refused}
 use Rattle.layouts.specs.AnswerLayout.{sheetParts}
@@ -154,6 +157,14 @@ items-4-to-9 bytes s e P i =
       longest = part-longest (s .prime) (prime s g) (monic s g) P i;
       repeated = k .split .repeated;
     }
+
+-- "(Algorithm 4.5)"
+pub as-printed : AsPrinted
+as-printed bytes s e P i =
+    let g = read-is-good bytes s e in
+    let large = prime s g .large in
+    let over = known (s .prime) (prime s g) (monic s g) P i .over in
+    algorithm.as-printed large over (digit-lift (s .prime) large (base-monic large over))
 
 pub answers-read-off : AnswersReadOff
 answers-read-off bytes s e = record {

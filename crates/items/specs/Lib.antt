@@ -21,6 +21,7 @@ pub mod Factors
 pub mod SplitPart
 pub mod Verdicts
 pub mod PartValues
+pub mod AlgorithmOrder
 pub mod Recognised
 pub mod PartShapes
 pub mod AllParts

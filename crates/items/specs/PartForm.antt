@@ -1,7 +1,8 @@
--- Items 5 and 7 of a part over G to the m, for any monic g modulo p² with bar G: the h of part = g^m + p·h, the power m1 and the w of
--- h bar = G^m1 · w, as polynomials. Proves both equations, the degrees of h and w, and that m1 is the highest power, below m where h bar is
--- not zero. Assumes nothing.
+-- Items 5 to 8 of a part over G to the m, for any monic g modulo p² with bar G: the h of part = g^m + p·h, the power m1 and the w of
+-- h bar = G^m1 · w, as polynomials. Proves both equations, when h bar is zero, the degrees of h and w, and that m1 is the highest power, below m where
+-- h bar is not zero. Assumes nothing.
 use mathlib.Core.Path.{_≡_, sym, _∙_, ap, subst, _≡⟨_⟩_, _∎}
+use mathlib.Core.Bool.{true, false}
 use mathlib.Core.List.{map}
 use mathlib.Core.Logic.{_≢_, ⊎-elim}
 use Prim.Native.Nat.{ℕ, suc, _≤_, _<_, _-_, _/_, _+_, _*_}
@@ -10,10 +11,12 @@ use native.Mathlib.Omega.{arith}
 use lib.ListN.{length, getD, length-map}
 use Rattle.specification.specs.Polynomials as spec
 use Rattle.specification.specs.Powers.{Power}
-use Rattle.specification.specs.Parts.{hBar, m1, w}
+use Rattle.specification.specs.Parts.{hBar, m1, w, u}
+use Rattle.specification.specs.Inverses.{inverse}
 use Rattle.specification.specs.Longest as claimed
 use Rattle.specification.specs.Items1to3 as items1to3
 use Rattle.specification.specs.Limits.{_²}
+use Rattle.lists.specs.Tests.{passes, fails, contrary}
 use Rattle.algebra.specs.Numbers.{square-large, rest-multiple}
 use Rattle.algebra.specs.Ring.{CommRing, linear1, zero-mul}
 use Rattle.algebra.specs.Identities.{con, _⊕_, _⊖_, _⊗_, _≈_, solve}
@@ -22,8 +25,8 @@ use Rattle.algebra.specs.PolynomialRing.{_+ᴿ_, _·_, -ᴿ_, 𝟎, 𝟏}
 use Rattle.algebra.specs.Degree.{Below, below-factor, small-multiple, monic-pow}
 use Rattle.algebra.specs.Homomorphisms.{below-map}
 use Rattle.algebra.specs.CoefficientLists.{ℤ[x]/, poly, poly-sub, poly-pow, 𝓩[x]/}
-use Rattle.algebra.specs.ListShapes.{length-sub, length-reduce, low-reduce}
-use Rattle.algebra.specs.ListDivision.{divides-exact, length-quotient, low-quotient}
+use Rattle.algebra.specs.ListShapes.{length-sub, length-scale, length-reduce, low-reduce}
+use Rattle.algebra.specs.ListDivision.{divides-exact, length-quotient, low-quotient, poly-isZero, isZero-poly}
 use Rattle.factorisation.specs.MonicDivisors.{monic-difference}
 use Rattle.factorisation.specs.ExtensionLaws.{bar-pow, π-equal}
 use Rattle.factorisation.specs.Kernel.{kernel-sub}
@@ -39,6 +42,9 @@ pub record PartOver (p : ℕ) (G : spec.Poly) (m : ℕ) (part : spec.Poly) : Typ
   pub positive : 1 ≤ m
   pub monic : MonicList (p ²) (m * spec.degree G) part
   pub bar : spec.reduce p part ≡ spec.pow p G m
+
+pub at-least-two : {p : ℕ} {G : spec.Poly} {m : ℕ} {part : spec.Poly} → PartOver p G m part → m ≢ 1 → 2 ≤ m
+at-least-two over repeated = ⊎-elim (λ e. absurd (repeated (sym e))) (λ l. l) (eq-or-lt-of-le (over .positive))
 
 -- a monic polynomial with such a bar is one
 pub part-over : {p : ℕ} → 1 < p → {P : Power} {q : spec.Poly} → claimed.Irreducible p (P .base) → 1 ≤ P .exponent
@@ -143,6 +149,17 @@ module _ {p : ℕ} (large : 1 < p) {G : spec.Poly} {m : ℕ} {part : spec.Poly} 
     unfolding hBar
     low-h = low-reduce p (omega arith) _
 
+    -- ---- item 6: "h bar is zero", as a test
+
+    pub isZero-h : poly p (hBar p g m part) ≡ 𝟎 → spec.isZero (hBar p g m part) ≡ true
+    isZero-h e = passes _ (isZero-poly p (omega arith) (hBar p g m part) low-h e)
+
+    pub nonzero-h : spec.isZero (hBar p g m part) ≡ false → poly p (hBar p g m part) ≢ 𝟎
+    nonzero-h f e = contrary f (isZero-h e)
+
+    pub isZero-h-false : poly p (hBar p g m part) ≢ 𝟎 → spec.isZero (hBar p g m part) ≡ false
+    isZero-h-false nonzero = fails _ (λ t. nonzero (poly-isZero p (hBar p g m part) t))
+
     -- ---- item 7: "m1 is the highest power of G that divides h bar", "h bar = G^m1 · w"
 
     -- G^k divides h bar
@@ -204,3 +221,9 @@ module _ {p : ℕ} (large : 1 < p) {G : spec.Poly} {m : ℕ} {part : spec.Poly} 
 
         less : k < m
         less = ⊎-elim (λ e. absurd (not-all e)) (λ l. l) (eq-or-lt-of-le (highest .bound))
+
+    -- ---- item 8: "u = w/m modulo p"
+
+    pub length-u : length (u p G g m part) ≡ length (w p G g m part)
+    unfolding u
+    length-u = length-scale p (inverse p m) (w p G g m part)

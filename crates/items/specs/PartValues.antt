@@ -1,14 +1,12 @@
 -- Items 5 to 8 on lists: what the specification's h bar, m1, w and u of a part over G to the m are, for any monic g modulo p² with bar G.
 -- Proves the claims' `Values`. Assumes nothing.
-use mathlib.Core.Path.{_≡_, refl, sym, _∙_, ap, subst}
+use mathlib.Core.Path.{_≡_, refl, sym, _∙_, ap}
 use mathlib.Core.Bool.{false}
 use mathlib.Core.Logic.{_≢_}
 use Prim.Native.Nat.{ℕ, suc, _<_, _-_, _%_, _+_, _*_}
 use native.Mathlib.Omega.{arith}
-use lib.Dec.{T}
-use lib.ListN.{length, getD}
+use lib.ListN.{getD}
 use Rattle.specification.specs.Polynomials as spec
-use Rattle.specification.specs.Inverses.{inverse}
 use Rattle.specification.specs.Parts.{hBar, m1, w, u}
 use Rattle.specification.specs.Items4to9 as items4to9
 use Rattle.specification.specs.Limits.{_²}
@@ -18,7 +16,6 @@ use Rattle.algebra.specs.PolynomialRing.{_+ᴿ_, _·_}
 use Rattle.algebra.specs.Fields.{Prime, prime-pos}
 use Rattle.algebra.specs.CoefficientLists.{ℤ[x]/, poly, poly-mul, poly-pow, poly-scale, same-list, 𝓩[x]/}
 use Rattle.algebra.specs.ListShapes.{length-mul, length-scale, low-reduce}
-use Rattle.algebra.specs.ListDivision.{isZero-poly}
 use Rattle.factorisation.specs.ExtensionLaws.{number}
 use Rattle.items.specs.MonicLists.{MonicList, monic-same}
 use Rattle.items.specs.MonicDivision.{monic-list-pow}
@@ -32,8 +29,10 @@ use Rattle.items.specs.PartForm.{
   below-h,
   length-h,
   low-h,
+  nonzero-h,
   highest,
   length-w,
+  length-u,
   low-w,
   w-law,
   highest-power,
@@ -85,7 +84,7 @@ module _ {p : ℕ} (prime : Prime p) {G g : spec.Poly} {m : ℕ} {part : spec.Po
 
   m1-highest : spec.isZero h ≡ false → (v : spec.Poly) → spec.mul p (spec.pow p G (suc k)) v ≡ h → ⊥
   m1-highest nonzero v e =
-      highest-power large over lift (λ z. subst T nonzero (isZero-poly p (prime-pos prime) h (low-h large over lift) z)) .exact (
+      highest-power large over lift (nonzero-h large over lift nonzero) .exact (
         poly p v,
         𝓑 .*-comm _ _ ∙ ap (λ a. a · poly p v) (sym (poly-pow p (prime-pos prime) G (suc k)))
             ∙ sym (poly-mul p (prime-pos prime) (spec.pow p G (suc k)) v) ∙ ap (poly p) e,
@@ -95,7 +94,7 @@ module _ {p : ℕ} (prime : Prime p) {G g : spec.Poly} {m : ℕ} {part : spec.Po
   u-holds : m % p ≢ 0 → spec.scale p m (u p G g m part) ≡ w p G g m part
   u-holds unit =
       same-list
-      (record { len = length-scale p m (u p G g m part) ∙ length-u; low = low })
+      (record { len = length-scale p m (u p G g m part) ∙ length-u large over lift; low = low })
       (record { len = refl; low = low-w large over lift })
       (poly-scale p (prime-pos prime) m (u p G g m part) ∙ ap (λ a. a · poly p (u p G g m part)) (sym (number-constant p m))
       ∙ divided)
@@ -105,9 +104,6 @@ module _ {p : ℕ} (prime : Prime p) {G g : spec.Poly} {m : ℕ} {part : spec.Po
 
       divided : number 𝓑 m · poly p (u p G g m part) ≡ poly p (w p G g m part)
       divided = unfold u in number-divided p prime m unit (w p G g m part)
-
-      length-u : length (u p G g m part) ≡ length (w p G g m part)
-      length-u = unfold u in length-scale p (inverse p m) (w p G g m part)
 
   pub values : items4to9.Values p G g m part
   values = record { hHolds = h-holds; wHolds = w-holds; m1Highest = m1-highest; uHolds = u-holds }

@@ -5,7 +5,6 @@ use mathlib.Core.Bool.{not, _&&_}
 use mathlib.Core.List.{[], _∷_}
 use mathlib.Core.Logic.{_⊎_, inl, inr, _≢_}
 use lib.Dec.{T, eqb, eqb→eq, eqb-refl, T-not, not-T}
-use lib.ListN.{length}
 use Prim.Native.Nat.{ℕ, suc, _≤_, _<_, _-_, _%_, _+_, _*_}
 use native.Mathlib.Nat.{mul-pos, one-mul, pos-of-ne-zero}
 use native.Mathlib.Decide.{ℕ-discrete}
@@ -25,13 +24,12 @@ use Rattle.algebra.specs.Homomorphisms.{keeps-zero}
 use Rattle.algebra.specs.Fields.{Prime, prime-pos}
 use Rattle.algebra.specs.CoefficientLists.{ℤ[x]/, poly, poly-pow, poly-scale, 𝓩[x]/}
 use Rattle.lists.specs.Tests.{picked, both, left, right}
-use Rattle.algebra.specs.ListShapes.{length-scale, low-reduce}
-use Rattle.algebra.specs.ListDivision.{poly-isZero, isZero-poly}
+use Rattle.algebra.specs.ListDivision.{poly-isZero}
 use Rattle.factorisation.specs.ExtensionLaws.{number, bars, bar-mul-pow, binomial}
 use Rattle.items.specs.MonicLists.{to-claimed}
 use Rattle.items.specs.Reductions.{LiftOf, barred, bar-poly, lift-over, extension, lift-is, lift-list-monic}
 use Rattle.items.specs.Units.{number-multiple, number-divided}
-use Rattle.items.specs.PartForm.{PartOver, PowerDivides, HighestPower, power-monic, shape-by, length-w, w-law, highest-power}
+use Rattle.items.specs.PartForm.{PartOver, PowerDivides, HighestPower, power-monic, shape-by, isZero-h, length-w, length-u, w-law, highest-power}
 use Rattle.items.specs.SplitPart.{SplitPart, one-factor, two-factors}
 
 eqb-equal : {a b : ℕ} → a ≡ b → T (eqb a b)
@@ -82,7 +80,7 @@ module _ {p : ℕ} (prime : Prime p) {G g : spec.Poly} {m : ℕ} {part : spec.Po
     lift-repeated unit last =
         one-factor prime over lift (spec.lift p g v) m
         (to-claimed (over .irreducible .monic .positive)
-        (lift-list-monic p large (lift .monic) v (omega (arith, length-v, length-w large over lift, rest)) below-v))
+        (lift-list-monic p large (lift .monic) v (omega (arith, length-u large over lift, length-w large over lift, rest)) below-v))
         (over .positive) (omega arith) (subst (PowerDivides large over lift) (omega arith) below-top) (inl (omega arith))
         (ap₂ (pow 𝓐) (lift-is p large g v) (sym last) ∙ binomial (extension p large) k γ (poly (p ²) v)
         ∙ ap (λ (j : ℕ). pow 𝓐 γ j +ᴿ extension p large .π · (number 𝓐 j · (pow 𝓐 γ k · poly (p ²) v))) last
@@ -93,9 +91,6 @@ module _ {p : ℕ} (prime : Prime p) {G g : spec.Poly} {m : ℕ} {part : spec.Po
 
         rest : (m - k) * spec.degree G ≡ spec.degree G
         rest = ap (λ (j : ℕ). j * spec.degree G) (let s : m - k ≡ 1 = omega arith in s) ∙ one-mul (spec.degree G)
-
-        length-v : length v ≡ length (w p G g m part)
-        length-v = unfold u in length-scale p (inverse p m) (w p G g m part)
 
         poly-v : poly p v ≡ constant (residue p (inverse p m)) · poly p (w p G g m part)
         poly-v = unfold u in poly-scale p (prime-pos prime) (inverse p m) (w p G g m part)
@@ -164,7 +159,7 @@ module _ {p : ℕ} (prime : Prime p) {G g : spec.Poly} {m : ℕ} {part : spec.Po
       Splits S = SplitPart p large G m part (S .factors)
 
       is-zero : poly p (hBar p g m part) ≡ 𝟎 → T (spec.isZero (hBar p g m part))
-      is-zero = isZero-poly p (prime-pos prime) (hBar p g m part) (unfold hBar in low-reduce p (prime-pos prime) _)
+      is-zero e = subst T (sym (isZero-h large over lift e)) tt
 
       read : T (not (eqb (m % p) 0) && eqb k (m - 1)) → (m % p ≢ 0) × (k ≡ m - 1)
       read t = (

@@ -1,6 +1,6 @@
 -- Tests, as Booleans.
 -- Proves when both of two pass, one of two or neither, and what a choice by a test is. Assumes nothing.
-use mathlib.Core.Path.{_≡_, refl, sym, _∙_}
+use mathlib.Core.Path.{_≡_, refl, sym, _∙_, ap}
 use mathlib.Core.Bool.{Bool, true, false, false≢true, cond, not, _&&_, _||_}
 use mathlib.Core.Logic.{_⊎_, inl, inr}
 use lib.Dec.{T}
@@ -9,6 +9,17 @@ use lib.Dec.{T}
 pub picked : {A : Type 0} (Q : A → Type 0) (b : Bool) {x y : A} → (T b → Q x) → (T (not b) → Q y) → Q (cond b x y)
 picked Q true one other = one tt
 picked Q false one other = other tt
+
+-- choices that differ in the branch for a failed test alone
+pub otherwise : {A : Type 0} (b : Bool) (x : A) {y z : A} → (b ≡ false → y ≡ z) → cond b x y ≡ cond b x z
+otherwise true x same = refl
+otherwise false x same = same refl
+
+-- a choice, with its branches exchanged, where e is the denial of c
+pub exchanged : {A : Type 0} (b c e : Bool) (x y : A) → not c ≡ e → cond (not b && c) x y ≡ cond (b || e) y x
+exchanged true c e x y denied = refl
+exchanged false true e x y denied = ap (λ a. cond a y x) denied
+exchanged false false e x y denied = ap (λ a. cond a y x) denied
 
 -- a test that passes is true
 pub passes : (b : Bool) → T b → b ≡ true

@@ -1,8 +1,2 @@
-pub mod ArrayCases
-pub mod CofactorIsW
-pub mod Degrees
-pub mod HBar
-pub mod ItemCases
-pub mod Lifts
-pub mod PowerLoop
-pub mod Scaled
+mod Returns
+mod ArrayCases

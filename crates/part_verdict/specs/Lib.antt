@@ -1,4 +1,3 @@
-pub mod Given
-pub mod Cofactors
 pub mod AsPart
-pub mod ByItems
+pub mod PartHeld
+pub mod PartFound

@@ -1,37 +1,24 @@
-// Items 4 to 9: the verdict on a primary part over G to the m, and its factors. Arrays hold 33 coefficients, constant first.
-// `split_part` is public for the crates above, and no entry point of the library.
+// Algorithm 4.5 of document 002: the verdict on one primary polynomial f modulo p², a part, and its factors by items 4 to 9.
+// `split_part` takes the steps in the order of the text, each under its line; the values are made, and proved, in `part_values`.
+// What is public is so for the crates above, and no entry point of the library.
 ghost use mathlib.Core.Path.{_≡_};
-ghost use mathlib.Core.Bool.{true, not, _&&_};
-ghost use mathlib.Core.Logic.{_≢_};
-ghost use Prim.Native.Nat.{_<_, _≤_, _-_, _%_, _*_};
-ghost use lib.Dec.{eqb};
-ghost use Rattle.specification.specs.Limits.{taken, _²};
-ghost use Rattle.specification.specs.Polynomials as spec;
-ghost use Rattle.specification.specs.Inverses.{inverse as inverseOf};
-ghost use Rattle.specification.specs.Parts.{hBar};
-ghost use Rattle.algebra.specs.Divisibility.{pow};
-ghost use Rattle.algebra.specs.PolynomialRing.{𝟎};
-ghost use Rattle.algebra.specs.Degree.{Below, Monic};
-ghost use Rattle.algebra.specs.CoefficientLists.{poly, Reduced, 𝓩[x]/};
-ghost use Rattle.arrays.specs.Represents.{Represents};
-ghost use Rattle.arrays.specs.Listed.{listed};
-ghost use Rattle.arrays.specs.Held.{Held, MonicArray};
-ghost use Rattle.part_verdict.specs.Given.{Given};
-ghost use Rattle.part_verdict.specs.Cofactors.{HighestIn};
-ghost use Rattle.part_verdict.specs.ByItems.{SplitByItems};
+ghost use Prim.Native.Nat.{_<_, _≤_};
+ghost use Rattle.specification.specs.Algorithm45.{isSplit};
+ghost use Rattle.part_values.specs.Primary.{Primary};
 ghost use Rattle.part_verdict.specs.AsPart.{oneFactor, twoFactors};
+ghost use Rattle.part_verdict.specs.PartFound.{PartFound};
 use arrays::Coefs;
 use arrays::size;
-use division::divide;
-use inverses::inverse;
-use modular::add_multiple;
-use modular::difference;
-use modular::multiple;
-use modular::over;
-use modular::product;
+use part_values::base_and_exponent;
+use part_values::digit_lift;
+use part_values::divided_by_exponent;
+use part_values::h_bar;
+use part_values::highest;
+use part_values::last_factor;
+use part_values::lifted;
 use residues::reduce;
 
-// "a split verdict carries m1 with it".
+// The text's "f is basic irreducible", "f is irreducible", one pair and two pairs. "a split verdict carries m1 with it".
 pub enum Verdict {
     Basic,
     Solid,
@@ -54,112 +41,6 @@ pub struct Part {
     pub verdict: Verdict,
     pub first: Factor,
     pub second: Factor,
-}
-
-// How often G divides h, and what is left: h = G^exponent · cofactor.
-struct Multiplicity {
-    exponent: usize,
-    cofactor: Coefs,
-}
-
-// a^k, where a is monic of degree d.
-fn power(a: Coefs, d: usize, k: usize, n: u16) -> Coefs
-    requires { ⌜ (1 < n) × (k * d ≤ 32) × Monic d (poly n a) × Reduced n 33 a ⌝ }
-    ensures { λ r. ⌜ Represents n r (pow (𝓩[x]/ n) (poly n a) k) ⌝ }
-{
-    let mut r = [0u16; 33];
-    r[0] = 1;
-    let mut i: usize = 0;
-    while i < k {
-        let v = product(r, i * d + 1, a, d + 1, n);
-        r = v;
-        i += 1;
-    }
-    r
-}
-
-// Item 5: h bar, where part − g^m = p·h.
-fn h_bar(g: Coefs, d: usize, m: usize, part: Coefs, p: u16) -> Coefs
-    requires { ⌜ (taken p ≡ true) × MonicArray (p ²) d g × Held (p ²) (m * d) part ⌝ }
-    ensures { λ r. ⌜ Represents p r (poly p (hBar p (listed d g) m (listed (m * d) part))) ⌝ }
-{
-    let n = p * p;
-    let q = power(g, d, m, n);
-    let e = difference(part, q, n);
-    over(e, p)
-}
-
-// Item 7: divides h by the monic g of degree d as long as it goes, at most m - 1 times.
-fn highest(h: Coefs, g: Coefs, d: usize, m: usize, p: u16) -> Multiplicity
-    requires { ⌜ Reduced p 33 h × Monic d (poly p g) × (1 ≤ m) × (m * d ≤ 32) × Below (m * d) (poly p h) × (poly p h ≢ 𝟎) × Reduced p 33 g ⌝ }
-    ensures { λ r. ⌜ HighestIn p h g (r .exponent) (r .cofactor) ⌝ }
-{
-    let last = m - 1;
-    let mut w = h;
-    let mut k: usize = 0;
-    while k < last {
-        let v = divide(w, (m - k) * d, g, d, p);
-        let rest = v.remainder;
-        let terms = size(rest);
-        if terms != 0 {
-            return Multiplicity {
-                exponent: k,
-                cofactor: w,
-            };
-        }
-        let q = v.quotient;
-        w = q;
-        k += 1;
-    }
-    Multiplicity {
-        exponent: k,
-        cofactor: w,
-    }
-}
-
-// q + p·t modulo p², where t has s terms.
-fn lifted(q: Coefs, t: Coefs, s: usize, p: u16) -> Coefs
-    requires { ⌜ (taken p ≡ true) × (s ≤ 33) × Reduced (p ²) 33 q × Reduced p 33 t × Below s (poly p t) ⌝ }
-    ensures { λ r. ⌜ Represents (p ²) r (poly (p ²) (spec.lift p q t)) ⌝ }
-{
-    add_multiple(q, p, t, 0, s, p * p)
-}
-
-// Item 8: u = w/m modulo p, where p does not divide m and w has s terms.
-fn divided_by_exponent(w: Coefs, s: usize, m: usize, p: u16) -> Coefs
-    requires { ⌜ (taken p ≡ true) × (m % p ≢ 0) × (s ≤ 33) × Below s (poly p w) × Reduced p 33 w ⌝ }
-    ensures { λ r. ⌜ Represents p r (poly p (spec.scale p (inverseOf p m) w)) ⌝ }
-{
-    let a = reduce(p, m as u64);
-    let c = inverse(p as u8, a);
-    multiple(reduce(p, c as u64), w, s, p)
-}
-
-// Item 8: "p does not divide m and m1 = m − 1".
-fn is_last_power(m: usize, k: usize, p: u16) -> bool
-    requires { ⌜ (0 < p) × (1 ≤ m) ⌝ }
-    ensures { λ r. ⌜ r ≡ (not (eqb (m % p) 0) && eqb k (m - 1)) ⌝ }
-{
-    let a = reduce(p, m as u64);
-    if a == 0 { false } else { k == m - 1 }
-}
-
-// Item 8: g + p·u, where u = w/m and w is of lower degree than g, which is of degree d.
-fn root(g: Coefs, d: usize, w: Coefs, m: usize, p: u16) -> Coefs
-    requires { ⌜ (taken p ≡ true) × (m % p ≢ 0) × (d ≤ 32) × Reduced (p ²) 33 g × Below d (poly p w) × Reduced p 33 w ⌝ }
-    ensures { λ r. ⌜ Represents (p ²) r (poly (p ²) (spec.lift p g (spec.scale p (inverseOf p m) w))) ⌝ }
-{
-    let u = divided_by_exponent(w, d, m, p);
-    lifted(g, u, d, p)
-}
-
-// Item 9: g^k + p·w, where w is of lower degree than g^k and g is monic of degree d.
-fn last_factor(g: Coefs, d: usize, k: usize, w: Coefs, p: u16) -> Coefs
-    requires { ⌜ (taken p ≡ true) × (k * d ≤ 32) × Monic d (poly (p ²) g) × Reduced p 33 w × Below (k * d) (poly p w) × Reduced (p ²) 33 g ⌝ }
-    ensures { λ r. ⌜ Represents (p ²) r (poly (p ²) (spec.lift p (spec.pow (p ²) g k) w)) ⌝ }
-{
-    let q = power(g, d, k, p * p);
-    lifted(q, w, k * d, p)
 }
 
 // A part with one factor.
@@ -193,7 +74,7 @@ fn one_factor(
     }
 }
 
-// Item 9: g, k times, and the last factor once.
+// g, k times, and the last factor once.
 fn two_factors(
     base: Coefs,
     g: Coefs,
@@ -223,36 +104,52 @@ fn two_factors(
     }
 }
 
-// Items 7 to 9, where m is above 1 and h, the array of h bar, is not zero.
-fn split_repeated(base: Coefs, g: Coefs, d: usize, m: usize, part: Coefs, h: Coefs, p: u16) -> Part
-    requires { ⌜ Given p base g d m part × (m ≢ 1) × Represents p h (poly p (hBar p (listed d g) m (listed (m * d) part))) × (poly p h ≢ 𝟎) ⌝ }
-    ensures { λ r. ⌜ SplitByItems p base g d m part r ⌝ }
+// "(p|m) or (m1 ≤ m − 2)".
+fn splits(m: usize, m1: usize, p: u16) -> bool
+    requires { ⌜ (0 < p) × (2 ≤ m) ⌝ }
+    ensures { λ r. ⌜ r ≡ isSplit p m m1 ⌝ }
 {
-    let top = highest(h, base, d, m, p);
-    let k = top.exponent;
-    let w = top.cofactor;
-    if k == 0 {
-        return one_factor(base, d, m, Verdict::Solid, part, m * d, 1);
-    }
-    if is_last_power(m, k, p) {
-        let q = root(g, d, w, m, p);
-        return one_factor(base, d, m, Verdict::Power, q, d, m);
-    }
-    let q = last_factor(g, d, m - k, w, p);
-    two_factors(base, g, d, m, k, q, (m - k) * d)
+    let a = reduce(p, m as u64);
+    if a == 0 { true } else { m1 <= m - 2 }
 }
 
-// Items 4 to 9: the verdict on the part over G to the m and its factors, where G, in `base`, is of degree d, and g modulo p² has the bar G.
-pub fn split_part(base: Coefs, g: Coefs, d: usize, m: usize, part: Coefs, p: u16) -> Part
-    requires { ⌜ Given p base g d m part ⌝ }
-    ensures { λ r. ⌜ SplitByItems p base g d m part r ⌝ }
+// Algorithm 4.5, line by line, where f is primary, of degree n, and q is its bar; `base` is G, and `h` is h bar.
+pub fn split_part(f: Coefs, q: Coefs, n: usize, p: u16) -> Part
+    requires { ⌜ Primary p f q n ⌝ }
+    ensures { λ r. ⌜ PartFound p f n r ⌝ }
 {
+    // "Determine G ∈ GF(p^r)[x] and m ≥ 1 so that f̄ = G^m and G is irreducible."
+    let found = base_and_exponent(q, n, p);
+    let base = found.base;
+    let d = found.degree;
+    let m = found.exponent;
+    // "if m = 1 then return("f is basic irreducible")"
     if m == 1 {
-        return one_factor(base, d, m, Verdict::Basic, part, m * d, 1);
+        return one_factor(base, d, m, Verdict::Basic, f, n, 1);
     }
-    let h = h_bar(g, d, m, part, p);
+    // "Choose g ∈ GR(p^2, r)[x] monic so that ḡ = G and determine h so that ph = f − g^m."
+    let g = digit_lift(base);
+    let h = h_bar(g, d, m, f, p);
+    // "if h̄ = 0 then return(((g, m)))"
     if size(h) == 0 {
         return one_factor(base, d, m, Verdict::Power, g, d, m);
     }
-    split_repeated(base, g, d, m, part, h, p)
+    // "Determine the maximum m1 so that G^m1 | h̄ and determine w so that h̄ = G^m1·w̄."
+    let top = highest(h, base, d, m, p);
+    let m1 = top.m1;
+    let w = top.w;
+    // "if m1 = 0 then return("f is irreducible")"
+    if m1 == 0 {
+        return one_factor(base, d, m, Verdict::Solid, f, n, 1);
+    }
+    // "if (p|m) or (m1 ≤ m − 2) then return(((g, m1), (g^(m−m1) + pw, 1)))"
+    if splits(m, m1, p) {
+        let last = last_factor(g, d, m - m1, w, p);
+        return two_factors(base, g, d, m, m1, last, (m - m1) * d);
+    }
+    // "Choose u such that ū = (m̄)^−1·w̄."
+    let u = divided_by_exponent(w, d, m, p);
+    // "return(((g + pu, m)))"
+    let root = lifted(g, u, d, p);
+    one_factor(base, d, m, Verdict::Power, root, d, m)
 }

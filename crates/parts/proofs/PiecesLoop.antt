@@ -7,20 +7,24 @@ use Prim.Native.Nat.{ℕ, suc, _+_, _-_, _≤_, _<_}
 use native.Mathlib.Omega.{arith}
 use lib.ListN.{length, getD, set, length-set}
 use Rattle.specification.specs.Polynomials as spec
+use Rattle.algebra.specs.TakenPrimes.{is-prime}
 use Rattle.algebra.specs.CoefficientLists.{poly}
 use Rattle.arrays.specs.Represents.{Represents}
 use Rattle.arrays.specs.Listed.{listed}
 use Rattle.arrays.specs.Held.{MonicModSquare}
 use Rattle.lists.specs.Members.{All}
 use Rattle.frobenius.specs.Unsplit.{Unsplit}
+use Rattle.frobenius.specs.PrimaryPowers.{unsplit-power}
+use Rattle.items.specs.Reductions.{bar-monic}
 use Rattle.modp_element.specs.declared.Element.{Element}
 use Rattle.modp_element.specs.Elements.{Known}
 use Rattle.part_cut.specs.Cut.{TwoFactors}
+use Rattle.part_values.specs.Primary.{Primary}
 use Rattle.part_verdict.specs.declared.Part.{Part}
+use Rattle.part_verdict.specs.PartFound.{PartFound}
 use Rattle.part_list.specs.declared.Parts.{Parts}
 use Rattle.part_list.specs.HeldParts.{held, PartBefore}
 use Rattle.lists.specs.Insertion.{Inserted}
-use Rattle.parts.specs.PartFound.{UnsplitPiece, PartFound}
 use Rattle.parts.specs.declared.Piece.{Piece}
 use Rattle.lists.specs.Stack.{stack, stack-empty, stack-top, stack-two, stack-length}
 use Rattle.parts.specs.Pieces as state
@@ -36,9 +40,11 @@ pub record Cutting (p : ℕ) (f : spec.Poly) (pieces : List Piece) (count : ℕ)
   pub long : length pieces ≡ 32
   pub state : State p f parts (stack noPiece pieces count)
 
--- a piece that is not cut, with its bar
-pub whole-piece : {p d : ℕ} {a q : List ℕ} → MonicModSquare p a d → Represents p q (poly p a) → Unsplit p d (poly p a) → UnsplitPiece p a q d
-whole-piece m b u = record { monic = m; bar = b; unsplit = u }
+-- a piece that is not cut is primary
+pub primary-piece : {p d : ℕ} {a q : List ℕ} → MonicModSquare p a d → Represents p q (poly p a) → Unsplit p d (poly p a) → Primary p a q d
+primary-piece {p} {a = a} m b u =
+    let P = is-prime (m .prime) in
+    record { monic = m; bar = b; power = unsplit-power P (m .positive) (bar-monic p (P .large) a (m .array .monic)) u }
 
 -- what is left to do
 abbrev pub left : List Piece → ℕ → ℕ

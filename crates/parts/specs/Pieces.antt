@@ -10,27 +10,26 @@ use native.Mathlib.Omega.{arith}
 use lib.ListN.{length, take}
 use Rattle.specification.specs.Polynomials as spec
 use Rattle.specification.specs.Parts as specification
-use Rattle.specification.specs.Limits.{_²}
-use Rattle.algebra.specs.Numbers.{square-large}
 use Rattle.algebra.specs.Fields.{Prime}
 use Rattle.algebra.specs.CoefficientLists.{ℤ[x]/, poly}
 use Rattle.lists.specs.Members.{All, all-cons, all-tail}
-use Rattle.items.specs.MonicLists.{MonicList, to-claimed}
+use Rattle.items.specs.MonicLists.{to-claimed}
 use Rattle.modp_element.specs.declared.Element.{Element}
 use Rattle.modp_element.specs.Elements.{Known}
 use Rattle.part_cut.specs.Cut.{TwoFactors}
 use Rattle.algebra.specs.TakenPrimes.{is-prime}
 use Rattle.arrays.specs.Listed.{listed}
 use Rattle.arrays.specs.Held.{MonicModSquare}
-use Rattle.part_verdict.specs.ByItems.{PartHeld}
+use Rattle.part_values.specs.ArrayLists.{square-list}
+use Rattle.part_verdict.specs.PartHeld.{PartHeld}
 use Rattle.part_verdict.specs.AsPart.{asPart}
 use Rattle.part_verdict.specs.declared.Part.{Part}
 use Rattle.part_list.specs.declared.Parts.{Parts}
 use Rattle.part_list.specs.HeldParts.{held, PartBefore}
 use Rattle.lists.specs.Insertion.{Inserted, inserted-all}
 use Rattle.part_list.proofs.FoundParts.{Holding, holding-start, holding-found, holding-done}
-use Rattle.part_list.proofs.ArrayPieces.{listed-monic, holding-cut}
-use Rattle.parts.specs.PartFound.{PartFound}
+use Rattle.part_list.proofs.ArrayPieces.{holding-cut}
+use Rattle.part_verdict.specs.PartFound.{PartFound}
 use Rattle.parts.specs.declared.Piece.{Piece}
 
 -- the list of a piece
@@ -64,9 +63,6 @@ pub record State (p : ℕ) (f : spec.Poly) (parts : Parts) (S : List Piece) : Ty
   pub room : parts .count + weight S ≤ 32
   pub arrays : All (PartHeld p) (held parts)
 
-given-list : {p : ℕ} {f : List ℕ} {d : ℕ} → MonicModSquare p f d → MonicList (p ²) d (listed d f)
-given-list {p} m = listed-monic (square-large p (is-prime (m .prime) .large)) (m .array)
-
 -- nothing is claimed of an element that is not known
 not-known : {p d : ℕ} (Q : ℤ[x]/ p) {e : Element} → e .known ≡ false → Known p d Q e
 not-known Q z = record { reduced = λ y. absurd (false≢true (sym z ∙ y)); splits = λ y. absurd (false≢true (sym z ∙ y)) }
@@ -76,7 +72,7 @@ pub state-start : (p : ℕ) (f : List ℕ) (d : ℕ) (e : Element) (parts : Part
 unfolding weight
 state-start p f d none parts m z e = record {
   prime = is-prime (m .prime);
-  holding = holding-start p (is-prime (m .prime)) (listed d f) parts e (to-claimed (m .positive) (given-list m));
+  holding = holding-start p (is-prime (m .prime)) (listed d f) parts e (to-claimed (m .positive) (square-list m));
   pieces = all-cons (record { monic = m; element = not-known (poly p f) z }) (λ a i. elim i [ ]);
   room = omega (arith, e, m .array .fits);
   arrays = subst (λ k. All (PartHeld p) (take k (parts .parts))) (sym e) (λ x i. elim i [ ]);
@@ -90,7 +86,7 @@ pieces-weigh p (a ∷ S) h = omega (arith, h a (here refl) .monic .positive, pie
 
 pub state-done : (p : ℕ) (f : List ℕ) (d : ℕ) (parts : Parts) → MonicModSquare p f d → State p (listed d f) parts [] → PartsOf p f d parts
 state-done p f d parts m w = record {
-  is = holding-done p (w .prime) (listed d f) parts (given-list m) (w .holding);
+  is = holding-done p (w .prime) (listed d f) parts (square-list m) (w .holding);
   few = omega (arith, w .room);
   arrays = w .arrays;
 }

@@ -5,10 +5,9 @@ ghost use mathlib.Core.Bool.{false};
 ghost use Rattle.algebra.specs.CoefficientLists.{poly};
 ghost use Rattle.arrays.specs.Held.{MonicModSquare};
 ghost use Rattle.frobenius.specs.Unsplit.{Unsplit};
-ghost use Rattle.parts.specs.PartFound.{UnsplitPiece, PartFound};
+ghost use Rattle.part_verdict.specs.PartFound.{PartFound};
 ghost use Rattle.parts.specs.Pieces.{PartsOf};
 use arrays::Coefs;
-use modp_base::base_of_power;
 use modp_element::Element;
 use part_cut::bar;
 use part_cut::cut_in_two;
@@ -61,25 +60,13 @@ fn no_parts() -> Parts
     }
 }
 
-// The part that f is, of degree d, where its bar q has no splitting element: its base, its exponent, its verdict and its factors.
-fn primary_part(f: Coefs, q: Coefs, d: usize, p: u16) -> Part
-    requires { ⌜ UnsplitPiece p f q d ⌝ }
-    ensures { λ r. ⌜ PartFound p f d r ⌝ }
-{
-    let g = base_of_power(q, d, p);
-    let base = g.coefs;
-    let m = d / g.degree;
-    // item 5: the lift of G has the same coefficients
-    split_part(base, base, g.degree, m, f, p)
-}
-
-// The part that f is, of degree d, where it is not cut.
+// The part that f is, of degree d, where it is not cut: its bar is then a power of one irreducible polynomial.
 fn part_of(f: Coefs, d: usize, p: u16) -> Part
     requires { ⌜ MonicModSquare p f d × Unsplit p d (poly p f) ⌝ }
     ensures { λ r. ⌜ PartFound p f d r ⌝ }
 {
     let q = bar(f, d, p);
-    primary_part(f, q, d, p)
+    split_part(f, q, d, p)
 }
 
 // Items 1 to 9: the parts of f, which is of degree d.

@@ -22,6 +22,7 @@ pub mod Longest
 pub mod Term3
 pub mod Items1to3
 pub mod Items4to9
+pub mod Algorithm45
 pub mod ReadOff
 pub mod Settings
 pub mod RunClaims
@@ -32,6 +33,7 @@ pub mod TypedClaims
 pub mod Text
 pub mod Open
 pub mod Trials
+pub mod AlgorithmTrials
 pub mod RunTrials
 pub mod Edges
 pub mod CopyTrials

@@ -10,6 +10,7 @@ use Rattle.specification.specs.Records.{proper, trim, pad, primeNumber, 
 use Rattle.specification.specs.Records.{constant, sum, difference, productOf, division}
 use Rattle.specification.specs.Powers.{polynomials, monics, monicsTo, highest, listed, powersAmong, powers, lifts, primary}
 use Rattle.specification.specs.Parts.{hBar, m1, w, u, splitting, partsOf}
+use Rattle.specification.specs.Algorithm45.{algorithm45}
 use Rattle.specification.specs.Totals.{members, listOf, different, freeDigits}
 use Rattle.specification.specs.Commands.{bytesOf, operandCount, commandsAfter, firstWith, has}
 use Rattle.specification.specs.Reading.{done, goOn, _>>=_, judged, onNext, byte, commandByte, withOperand, flag}
@@ -36,6 +37,7 @@ unfolding
     constant sum difference productOf division
     polynomials monics monicsTo highest listed powersAmong powers lifts primary
     hBar m1 w u splitting partsOf
+    algorithm45
     members listOf different freeDigits
     bytesOf operandCount commandsAfter firstWith has
     done goOn _>>=_ judged onNext byte commandByte withOperand flag

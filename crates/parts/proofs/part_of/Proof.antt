@@ -1,7 +1,7 @@
 -- `parts::part_of` meets its contract.
 -- Assumes nothing.
 use borrow.Author.Needs.{needs}
-use Rattle.parts.proofs.PiecesLoop.{whole-piece}
+use Rattle.parts.proofs.PiecesLoop.{primary-piece}
 use Rattle.parts.proofs.part_of.Statement.{statement}
 use Rattle.parts.proofs.part_of.Tie as tie
 
@@ -10,5 +10,5 @@ part-of-spec =
     tie.close
     (tie.spec
     (λ c κs. search needs)  -- bar-requires
-    (λ c κs. whole-piece (c .before .pre .0) (c .bar .ensures) (c .before .pre .1))  -- primary-part-requires
+    (λ c κs. primary-piece (c .before .pre .0) (c .bar .ensures) (c .before .pre .1))  -- split-part-requires
     (λ c. search needs))  -- returns

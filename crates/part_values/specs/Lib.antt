@@ -1,0 +1,4 @@
+pub mod Given
+pub mod ArrayLists
+pub mod Primary
+pub mod ArrayValues
