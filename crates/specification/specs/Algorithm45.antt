@@ -37,10 +37,13 @@ algorithm45 p G g m f =
     -- "return(((g + pu, m)))"
     splitInto power (factor (lift p g u) m ∷ [])))))
 
--- items 4 to 9 of every accepted sheet: "(Algorithm 4.5)", with the g of item 5
+-- on the part of f over a power, with the g of item 5
+abbrev pub algorithmOn : ℕ → Poly → Power → Splitting
+algorithmOn p f P = algorithm45 p (P .base) (digitLift (P .base)) (P .exponent) (primary p f P)
+
+-- items 4 to 9 of every accepted sheet: "(Algorithm 4.5)"
 abbrev pub AsPrinted : Type 0
 AsPrinted =
     (bytes : List ℕ) (s : Sheet) → readSheet bytes ≡ accepted s
     → (P : Power) → List·Memᴰ P (powers (s .prime) (s .poly))
-    → partOf (s .prime) (s .poly) P .splitting
-    ≡ algorithm45 (s .prime) (P .base) (digitLift (P .base)) (P .exponent) (primary (s .prime) (s .poly) P)
+    → partOf (s .prime) (s .poly) P .splitting ≡ algorithmOn (s .prime) (s .poly) P

@@ -6,14 +6,14 @@ use mathlib.Core.List.{List, [], _∷_, map}
 use Prim.Native.Nat.{ℕ}
 use Rattle.specification.specs.Open.{everything}
 use Rattle.specification.specs.Polynomials.{Poly}
-use Rattle.specification.specs.Powers.{Power, powers, primary}
-use Rattle.specification.specs.Parts.{split, factor, Splitting, splitInto, digitLift}
-use Rattle.specification.specs.Algorithm45.{algorithm45}
+use Rattle.specification.specs.Powers.{powers}
+use Rattle.specification.specs.Parts.{split, factor, Splitting, splitInto}
+use Rattle.specification.specs.Algorithm45.{algorithmOn}
 use Rattle.specification.specs.Trials.{Trial, trials}
 
--- what the algorithm returns for each part of f, with the g of item 5
+-- what the algorithm returns for each part of f
 abbrev returned : ℕ → Poly → List Splitting
-returned p f = map (λ (P : Power). algorithm45 p (P .base) (digitLift (P .base)) (P .exponent) (primary p f P)) (powers p f)
+returned p f = map (algorithmOn p f) (powers p f)
 
 -- it gives the table
 pub trials-returned : map (λ (t : Trial). returned (t .prime) (t .poly)) trials ≡ map (λ (t : Trial). t .list) trials

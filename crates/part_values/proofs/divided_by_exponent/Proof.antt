@@ -20,9 +20,9 @@ divided-by-exponent-spec =
     (λ c κs.
     let (W, unit, low) = c .before .before .before .pre in
     (search needs, omega (arith, degree-room (W .given)), W .are .is .reduced, low))  -- multiple-requires
-    (λ c X.
+    (λ c any.
     let (W, unit, low) = c .before .before .before .before .pre in
     let rule = c .before .before .inverse .ensures .rule (W .given .prime) in
-    is-u (X .given) (X .chosen) (X .are) unit low
+    is-u (any .given) (any .chosen) (any .are) unit low
     (divided-by _ _ (large (W .given)) unit _ (rw (c .before .before .before .reduce .ensures .0) at rule) (c .before .reduce2 .ensures .0) _
     (c .multiple .ensures))))  -- returns
