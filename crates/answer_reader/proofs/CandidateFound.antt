@@ -19,16 +19,15 @@ use Rattle.specification.specs.SheetClaims.{GoodSheet}
 use Rattle.algebra.specs.Numbers.{lt-or-le, square-large}
 use Rattle.lists.specs.Tests.{passes, contrary}
 use Rattle.algebra.specs.TakenPrimes.{is-prime}
-use Rattle.algebra.specs.CoefficientLists.{poly}
 use Rattle.arrays.specs.Listed.{listed}
 use Rattle.arrays.specs.Held.{MonicArray, poly-monic}
 use Rattle.items.specs.MonicLists.{MonicList, from-claimed, to-claimed}
+use Rattle.items.specs.ArrayLists.{listed-monic}
 use Rattle.items.specs.Factorisations.{monic-equal}
 use Rattle.layouts.specs.CommandsReadBack.{WellFormed}
 use Rattle.layouts.specs.AnswerReadBack.{head-back, run-shown}
 use Rattle.layouts.specs.GoodSheets.{asked-good}
 use Rattle.commands.specs.AsSheet.{constant-decides}
-use Rattle.part_values.specs.ArrayLists.{listed-monic}
 use Rattle.answer_reader.specs.declared.Candidate.{Candidate}
 use Rattle.answer_reader.specs.declared.Grown.{Grown}
 use Rattle.layouts.specs.CommandPlaces.{commandAt, operands-there, operand-at}

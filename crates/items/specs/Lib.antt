@@ -9,6 +9,7 @@ pub mod Irreducibles
 pub mod PowersSame
 pub mod PowersOnly
 pub mod Reductions
+pub mod ArrayLists
 pub mod PrimaryHolds
 pub mod ListExtension
 pub mod PartForm

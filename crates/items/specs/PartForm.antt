@@ -1,6 +1,6 @@
 -- Items 5 to 8 of a part over G to the m, for any monic g modulo p² with bar G: the h of part = g^m + p·h, the power m1 and the w of
--- h bar = G^m1 · w, as polynomials. Proves both equations, when h bar is zero, the degrees of h and w, and that m1 is the highest power, below m where
--- h bar is not zero. Assumes nothing.
+-- h bar = G^m1 · w, as polynomials. Proves both equations, when h bar is zero, the degrees of h and w, the length of u, and that m1 is the highest power,
+-- below m where h bar is not zero. Assumes nothing.
 use mathlib.Core.Path.{_≡_, sym, _∙_, ap, subst, _≡⟨_⟩_, _∎}
 use mathlib.Core.Bool.{true, false}
 use mathlib.Core.List.{map}

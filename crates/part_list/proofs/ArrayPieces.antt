@@ -14,7 +14,7 @@ use Rattle.algebra.specs.CoefficientLists.{poly, 𝓩[x]/}
 use Rattle.arrays.specs.Listed.{listed}
 use Rattle.arrays.specs.Held.{MonicArray, poly-monic}
 use Rattle.items.specs.MonicLists.{to-claimed}
-use Rattle.part_values.specs.ArrayLists.{listed-monic, bar-listed}
+use Rattle.items.specs.ArrayLists.{listed-monic, bar-listed}
 use Rattle.part_list.specs.declared.Parts.{Parts}
 use Rattle.part_list.proofs.FoundParts.{Holding, holding-halved}
 

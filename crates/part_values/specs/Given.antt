@@ -1,5 +1,5 @@
 -- A part in an array: `Given`, it is over G to the m, as the first line of Algorithm 4.5 has it; `Chosen`, g is monic modulo p² with bar G.
--- Proves that the arrays hold the polynomials of their lists, that those of G and g are monic, and that G itself may be chosen. Assumes nothing.
+-- Proves that G and g are monic, as lists and in their arrays, and that G itself may be chosen. Assumes nothing.
 use mathlib.Core.Path.{_≡_, subst}
 use mathlib.Core.Bool.{true}
 use mathlib.Core.List.{List}

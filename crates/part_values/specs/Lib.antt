@@ -1,4 +1,3 @@
 pub mod Given
-pub mod ArrayLists
 pub mod Primary
 pub mod ArrayValues

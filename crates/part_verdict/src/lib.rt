@@ -4,7 +4,7 @@
 ghost use mathlib.Core.Path.{_≡_};
 ghost use Prim.Native.Nat.{_<_, _≤_};
 ghost use Rattle.specification.specs.Algorithm45.{isSplit};
-ghost use Rattle.part_values.specs.Primary.{Primary};
+ghost use Rattle.part_values.specs.Primary.{PrimaryArray};
 ghost use Rattle.part_verdict.specs.AsPart.{oneFactor, twoFactors};
 ghost use Rattle.part_verdict.specs.PartFound.{PartFound};
 use arrays::Coefs;
@@ -115,7 +115,7 @@ fn splits(m: usize, m1: usize, p: u16) -> bool
 
 // Algorithm 4.5, line by line, where f is primary, of degree n, and q is its bar; `base` is G, and `h` is h bar.
 pub fn split_part(f: Coefs, q: Coefs, n: usize, p: u16) -> Part
-    requires { ⌜ Primary p f q n ⌝ }
+    requires { ⌜ PrimaryArray p f q n ⌝ }
     ensures { λ r. ⌜ PartFound p f n r ⌝ }
 {
     // "Determine G ∈ GF(p^r)[x] and m ≥ 1 so that f̄ = G^m and G is irreducible."

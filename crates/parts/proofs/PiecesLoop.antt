@@ -19,7 +19,7 @@ use Rattle.items.specs.Reductions.{bar-monic}
 use Rattle.modp_element.specs.declared.Element.{Element}
 use Rattle.modp_element.specs.Elements.{Known}
 use Rattle.part_cut.specs.Cut.{TwoFactors}
-use Rattle.part_values.specs.Primary.{Primary}
+use Rattle.part_values.specs.Primary.{PrimaryArray, is-primary}
 use Rattle.part_verdict.specs.declared.Part.{Part}
 use Rattle.part_verdict.specs.PartFound.{PartFound}
 use Rattle.part_list.specs.declared.Parts.{Parts}
@@ -41,10 +41,10 @@ pub record Cutting (p : ℕ) (f : spec.Poly) (pieces : List Piece) (count : ℕ)
   pub state : State p f parts (stack noPiece pieces count)
 
 -- a piece that is not cut is primary
-pub primary-piece : {p d : ℕ} {a q : List ℕ} → MonicModSquare p a d → Represents p q (poly p a) → Unsplit p d (poly p a) → Primary p a q d
+pub primary-piece : {p d : ℕ} {a q : List ℕ} → MonicModSquare p a d → Represents p q (poly p a) → Unsplit p d (poly p a) → PrimaryArray p a q d
 primary-piece {p} {a = a} m b u =
     let P = is-prime (m .prime) in
-    record { monic = m; bar = b; power = unsplit-power P (m .positive) (bar-monic p (P .large) a (m .array .monic)) u }
+    record { monic = m; bar = b; primary = is-primary m (unsplit-power P (m .positive) (bar-monic p (P .large) a (m .array .monic)) u) }
 
 -- what is left to do
 abbrev pub left : List Piece → ℕ → ℕ

@@ -14,13 +14,13 @@ use Rattle.algebra.specs.Fields.{Prime}
 use Rattle.algebra.specs.CoefficientLists.{ℤ[x]/, poly}
 use Rattle.lists.specs.Members.{All, all-cons, all-tail}
 use Rattle.items.specs.MonicLists.{to-claimed}
+use Rattle.items.specs.ArrayLists.{square-list}
 use Rattle.modp_element.specs.declared.Element.{Element}
 use Rattle.modp_element.specs.Elements.{Known}
 use Rattle.part_cut.specs.Cut.{TwoFactors}
 use Rattle.algebra.specs.TakenPrimes.{is-prime}
 use Rattle.arrays.specs.Listed.{listed}
 use Rattle.arrays.specs.Held.{MonicModSquare}
-use Rattle.part_values.specs.ArrayLists.{square-list}
 use Rattle.part_verdict.specs.PartHeld.{PartHeld}
 use Rattle.part_verdict.specs.AsPart.{asPart}
 use Rattle.part_verdict.specs.declared.Part.{Part}

@@ -13,13 +13,12 @@ use Rattle.algebra.specs.Numbers.{lt-or-le, square-large}
 use Rattle.algebra.specs.Divisibility.{Coprime, pow-add}
 use Rattle.algebra.specs.TakenPrimes.{is-prime}
 use Rattle.algebra.specs.PolynomialRing.{_·_, x}
-use Rattle.algebra.specs.Degree.{Monic}
 use Rattle.algebra.specs.CoefficientLists.{poly, 𝓩[x]/}
 use Rattle.algebra.specs.Congruence.{Congruent, congruent-sym, congruent-trans, congruent-mul}
 use Rattle.algebra.specs.Monomials.{x^}
-use Rattle.arrays.specs.Listed.{listed, reduced-listed}
+use Rattle.arrays.specs.Listed.{listed}
 use Rattle.arrays.specs.Held.{MonicModSquare, poly-monic}
-use Rattle.items.specs.MonicLists.{MonicList, monic-reduced}
+use Rattle.items.specs.ArrayLists.{square-list}
 use Rattle.runs.specs.PowersOfX.{One, x-coprime, powers-apart, one-shifts}
 use Rattle.runs.specs.RunLengths.{run-by}
 use Rattle.quotients.specs.Remainder.{Remainder, remainder-as}
@@ -83,13 +82,8 @@ module _ {p : ℕ} {f : List ℕ} {d : ℕ} (given : MonicModSquare p f d) where
   same : poly (p ²) (listed d f) ≡ poly (p ²) f
   same = poly-monic (given .array)
 
-  list : MonicList (p ²) d (listed d f)
-  list =
-      monic-reduced modulus (reduced-listed (given .array .reduced) (given .array .fits) (omega (arith, modulus)))
-      (subst (Monic d) (sym same) (given .array .monic))
-
   result : {r : ℕ} → Least (One (p ²) (poly (p ²) f)) runLimit r → r ≡ runLength p (listed d f)
-  result {r} h = run-by (is-prime (given .prime)) list (subst (λ a. Least (One (p ²) a) runLimit r) (sym same) h)
+  result {r} h = run-by (is-prime (given .prime)) (square-list given) (subst (λ a. Least (One (p ²) a) runLimit r) (sym same) h)
 
   module _ {g : List ℕ} {i j : ℕ} (S : Steps (p ²) f d g j) (M : Meeting (p ²) f g i) (here : 0 < i) where
     pub run-met : T (hasRun p (listed d f)) → j * smallSteps + 1 - i ≤ runLimit → j * smallSteps + 1 - i ≡ runLength p (listed d f)

@@ -16,6 +16,7 @@ use Rattle.specification.specs.Sheets.{Sheet, accepted, readSheet}
 abbrev pub isSplit : ℕ → ℕ → ℕ → Bool
 isSplit p m m1 = eqb (m % p) 0 || leb m1 (m - 2)
 
+-- "Output": the message "f is basic irreducible" is the verdict basic, with f once, and "f is irreducible" solid; one pair is power, and two are split.
 -- "Determine G ∈ GF(p^r)[x] and m ≥ 1 so that f̄ = G^m and G is irreducible": these and g are arguments
 unfoldable pub algorithm45 : ℕ → Poly → Poly → ℕ → Poly → Splitting
 algorithm45 p G g m f =
