@@ -1,5 +1,5 @@
 -- A primary polynomial in an array: `PrimaryArray p f q n`, f is primary, of degree n, and q is its bar; `PrimaryBar p q n`, q is a power of one irreducible
--- polynomial. `Determined p q n r`: r is that power, G^m, as the first line of Algorithm 4.5 asks for it.
+-- polynomial, of degree n. `Determined p q n r`: r is such a power, G^m, as the first line of Algorithm 4.5 asks for it.
 -- Proves that the base which `modp_base` finds gives it, that f is then a part over G to the m, and that f is primary where its bar is such a power over ℤ/p.
 -- Assumes nothing.
 use mathlib.Core.Path.{_≡_, sym, _∙_, ap, subst}
@@ -33,7 +33,7 @@ use Rattle.modp_base.specs.Bases.{BaseFound}
 use Rattle.part_values.specs.declared.BarPower.{BarPower}
 use Rattle.part_values.specs.Given.{Given}
 
--- q is a power of one irreducible polynomial modulo p
+-- q is a power of one irreducible polynomial modulo p, the first or a higher one
 pub record PrimaryBar (p : ℕ) (q : List ℕ) (n : ℕ) : Type 0 where
   pub prime : taken p ≡ true
   pub array : MonicArray p n q
@@ -42,13 +42,13 @@ pub record PrimaryBar (p : ℕ) (q : List ℕ) (n : ℕ) : Type 0 where
   pub positive : 1 ≤ power .exponent
   pub is : items1to3.powerOf p power ≡ listed n q
 
--- "f ∈ GR(p^2, r)[x], a primary polynomial", monic, with its bar
+-- "f ∈ GR(p^2, r)[x], a primary polynomial", of degree n, with its bar
 pub record PrimaryArray (p : ℕ) (f q : List ℕ) (n : ℕ) : Type 0 where
   pub monic : MonicModSquare p f n
   pub bar : Represents p q (poly p f)
   pub primary : items1to3.Primary p (listed n f)
 
--- "G ∈ GF(p^r)[x] and m ≥ 1 so that f̄ = G^m and G is irreducible"
+-- "G ∈ GF(p^r)[x] and m ≥ 1 so that f̄ = G^m and G is irreducible", where q is f̄
 pub record Determined (p : ℕ) (q : List ℕ) (n : ℕ) (r : BarPower) : Type 0 where
   pub held : Held p (r .degree) (r .base)
   pub irreducible : claimed.Irreducible p (listed (r .degree) (r .base))

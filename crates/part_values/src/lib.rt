@@ -1,6 +1,6 @@
 // The values of Algorithm 4.5 of document 002, each proved where the text first has it: G and m, g, h bar, m1 and w, u, and the factors made of them.
-// f is a primary polynomial modulo p², G is in `base` and of degree d. Arrays hold 33 coefficients, constant first. What is public is so for
-// the crates above, and no entry point of the library.
+// f is a primary polynomial modulo p², which the contracts call the part; G is in `base` and of degree d. Arrays hold 33 coefficients, constant first.
+// What is public is so for the crates above, and no entry point of the library.
 ghost use mathlib.Core.Path.{_≡_};
 ghost use mathlib.Core.Bool.{true};
 ghost use mathlib.Core.List.{List};
@@ -41,12 +41,12 @@ pub struct Multiplicity {
     pub w: Coefs,
 }
 
-// "Determine G ∈ GF(p^r)[x] and m ≥ 1 so that f̄ = G^m and G is irreducible", where q is f bar, of degree n.
-pub fn base_and_exponent(q: Coefs, n: usize, p: u16) -> BarPower
-    requires { ⌜ PrimaryBar p q n ⌝ }
-    ensures { λ r. ⌜ Determined p q n r ⌝ }
+// "Determine G ∈ GF(p^r)[x] and m ≥ 1 so that f̄ = G^m and G is irreducible", where `bar` is f̄, of degree n = m·d.
+pub fn base_and_exponent(bar: Coefs, n: usize, p: u16) -> BarPower
+    requires { ⌜ PrimaryBar p bar n ⌝ }
+    ensures { λ r. ⌜ Determined p bar n r ⌝ }
 {
-    let found = base_of_power(q, n, p);
+    let found = base_of_power(bar, n, p);
     let base = found.coefs;
     BarPower {
         base: base,
@@ -62,7 +62,7 @@ pub fn digit_lift(base: Coefs) -> Coefs
     base
 }
 
-// a^k, where a is monic of degree d.
+// a^k modulo n, where a is monic of degree d.
 fn power(a: Coefs, d: usize, k: usize, n: u16) -> Coefs
     requires { ⌜ (1 < n) × (k * d ≤ 32) × Monic d (poly n a) × Reduced n 33 a ⌝ }
     ensures { λ r. ⌜ Represents n r (pow (𝓩[x]/ n) (poly n a) k) ⌝ }
@@ -78,7 +78,7 @@ fn power(a: Coefs, d: usize, k: usize, n: u16) -> Coefs
     r
 }
 
-// "determine h so that ph = f − g^m": the bar of h.
+// "determine h so that ph = f − g^m": the bar of h. The entries of f − g^m are multiples of p below p², so divided by p they are below p.
 pub fn h_bar(g: Coefs, d: usize, m: usize, f: Coefs, p: u16) -> Coefs
     requires { ⌜ ((base : List ℕ) × Given p base d m f × Chosen p base d g) ⌝ }
     ensures { λ r. ⌜ IsHBar p g d m f r ⌝ }
@@ -89,15 +89,16 @@ pub fn h_bar(g: Coefs, d: usize, m: usize, f: Coefs, p: u16) -> Coefs
     over(e, p)
 }
 
-// "Determine the maximum m1 so that G^m1 | h̄ and determine w so that h̄ = G^m1·w̄." h is not zero and of lower degree than G^m, so m1 is below m.
+// "Determine the maximum m1 so that G^m1 | h̄ and determine w so that h̄ = G^m1·w̄": after k divisions h̄ = G^k·w. h̄ is not zero and of lower degree than G^m,
+// so m1 is below m.
 pub fn highest(h: Coefs, base: Coefs, d: usize, m: usize, p: u16) -> Multiplicity
     requires { ⌜ HBarOver p base d m h × (poly p h ≢ 𝟎) ⌝ }
     ensures { λ r. ⌜ ((H : HBarOver p base d m h) → AreM1AndW p base (H .g) d m (H .part) (r .m1) (r .w)) ⌝ }
 {
-    let last = m - 1;
+    let most = m - 1;
     let mut w = h;
     let mut k: usize = 0;
-    while k < last {
+    while k < most {
         let v = divide(w, (m - k) * d, base, d, p);
         let rest = v.remainder;
         let terms = size(rest);
@@ -120,7 +121,7 @@ pub fn last_factor(g: Coefs, d: usize, k: usize, w: Coefs, p: u16) -> Coefs
     lifted(q, w, k * d, p)
 }
 
-// "Choose u such that ū = (m̄)^−1·w̄", where p does not divide m and w is of lower degree than G.
+// "Choose u such that ū = (m̄)^−1·w̄", where p does not divide m and w is of lower degree than G. The table has inverses modulo p²; modulo p they serve too.
 pub fn divided_by_exponent(w: Coefs, d: usize, m: usize, p: u16) -> Coefs
     requires { ⌜ WOver p d m w × (m % p ≢ 0) × Below d (poly p w) ⌝ }
     ensures { λ r. ⌜ ((W : WOver p d m w) → IsU p (W .base) (W .g) d m (W .part) r) ⌝ }
@@ -130,7 +131,7 @@ pub fn divided_by_exponent(w: Coefs, d: usize, m: usize, p: u16) -> Coefs
     multiple(reduce(p, c as u64), w, d, p)
 }
 
-// "g + pu", and what else is of this form: q + p·t modulo p², where t has s terms.
+// "g + pu", and "g^(m−m1) + pw": q + p·t modulo p², where t has s terms.
 pub fn lifted(q: Coefs, t: Coefs, s: usize, p: u16) -> Coefs
     requires { ⌜ (taken p ≡ true) × (s ≤ 33) × Reduced (p ²) 33 q × Reduced p 33 t × Below s (poly p t) ⌝ }
     ensures { λ r. ⌜ Represents (p ²) r (poly (p ²) (spec.lift p q t)) ⌝ }

@@ -30,7 +30,7 @@ use Rattle.items.specs.PartForm.{power-monic, isZero-h, isZero-h-false, length-
 use Rattle.items.specs.AlgorithmOrder.{as-printed}
 use Rattle.part_values.proofs.Degrees.{rest-room}
 use Rattle.part_values.proofs.Lifts.{lift-by}
-use Rattle.part_values.specs.Given.{Given, Chosen, large, degree-room, part-room, base-degree, g-list, digit-chosen}
+use Rattle.part_values.specs.Given.{Given, Chosen, large, degree-room, part-room, base-degree, g-list}
 use Rattle.part_values.specs.ArrayValues.{IsHBar, AreM1AndW, IsU}
 use Rattle.part_verdict.proofs.Returns.{returns-basic, returns-power, returns-solid, returns-split, returns-root}
 use Rattle.part_verdict.specs.declared.Verdict.the-variants.{Basic, Solid, Power}
@@ -85,30 +85,29 @@ module _ {p : ℕ} {base : List ℕ} {d m : ℕ} {part : List ℕ} (given : Give
   none-held : FactorHeld (p ²) none
   none-held = held-below zero-le (zeros (p ²) pos .reduced) (rw (poly-zeros (p ²) 33) (below-𝟎 1))
 
-  -- what the algorithm returns is what items 4 to 9 give
-  returned : {g : List ℕ} → Chosen p base d g → {S : parts.Splitting} → algorithm45 p G (listed d g) m Q ≡ S
-      → partWith S ≡ partWith (parts.splitting p G (listed d g) m Q)
-  returned chosen e = ap partWith (sym (as-printed (large given) (given .over) (chosen .lift) ∙ e))
-
-  -- m = 1; item 4: "The factor is the part itself". No g is chosen yet: it is said for that of item 5
-  pub split-basic : m ≡ 1 → {n : ℕ} → m * d ≡ n → SplitByItems p base base d m part (oneFactor base d m Basic part n 1)
-  split-basic e degree =
-      subst (λ n. SplitByItems p base base d m part (oneFactor base d m Basic part n 1)) degree
-      (record {
-        is = returned (digit-chosen given) (returns-basic p G G m Q e);
-        held = record { base = given .baseHeld; first = given .partHeld; second = none-held };
-      })
-
   module _ {g : List ℕ} (chosen : Chosen p base d g) where
     -- the list of g
     abbrev γ : List ℕ
     γ = listed d g
 
+    -- what the algorithm returns is what items 4 to 9 give
+    returned : {S : parts.Splitting} → algorithm45 p G γ m Q ≡ S → partWith S ≡ partWith (parts.splitting p G γ m Q)
+    returned e = ap partWith (sym (as-printed (large given) (given .over) (chosen .lift) ∙ e))
+
+    -- m = 1; item 4: "The factor is the part itself". No g is chosen yet: it holds for every g
+    pub split-basic : m ≡ 1 → {n : ℕ} → m * d ≡ n → SplitByItems p base g d m part (oneFactor base d m Basic part n 1)
+    split-basic e degree =
+        subst (λ n. SplitByItems p base g d m part (oneFactor base d m Basic part n 1)) degree
+        (record {
+          is = returned (returns-basic p G γ m Q e);
+          held = record { base = given .baseHeld; first = given .partHeld; second = none-held };
+        })
+
     module _ (repeated : m ≢ 1) {h : List ℕ} (H : IsHBar p g d m part h) where
       -- h̄ = 0; item 6: "The factor is g, m times"
       pub split-power : poly p h ≡ 𝟎 → SplitByItems p base g d m part (oneFactor base d m Power g d m)
       split-power e = record {
-        is = returned chosen (returns-power p G γ m Q repeated (isZero-h (large given) (given .over) (chosen .lift) (sym (H .is .is) ∙ e)));
+        is = returned (returns-power p G γ m Q repeated (isZero-h (large given) (given .over) (chosen .lift) (sym (H .is .is) ∙ e)));
         held = record { base = given .baseHeld; first = chosen .held; second = none-held };
       }
 
@@ -121,7 +120,7 @@ module _ {p : ℕ} {base : List ℕ} {d m : ℕ} {part : List ℕ} (given : Give
         split-solid e degree =
             subst (λ n. SplitByItems p base g d m part (oneFactor base d m Solid part n 1)) degree
             (record {
-              is = returned chosen (returns-solid p G γ m Q repeated not-zero (sym (W .m1Is) ∙ e));
+              is = returned (returns-solid p G γ m Q repeated not-zero (sym (W .m1Is) ∙ e));
               held = record { base = given .baseHeld; first = given .partHeld; second = none-held };
             })
 
@@ -161,7 +160,7 @@ module _ {p : ℕ} {base : List ℕ} {d m : ℕ} {part : List ℕ} (given : Give
                 let (list, held) = list-held last-list room (lift-by p (large given) _ _ _ _ powers (W .is .is) r) in
                 record {
                   is = ap₂ (λ (j : ℕ) f. partWith (parts.splitInto (parts.split j) (parts.factor γ j ∷ parts.factor f 1 ∷ []))) (W .m1Is) list
-                      ∙ returned chosen (returns-split p G γ m Q repeated not-zero divides-m1 (asked true t));
+                      ∙ returned (returns-split p G γ m Q repeated not-zero divides-m1 (asked true t));
                   held = record { base = given .baseHeld; first = chosen .held; second = held };
                 }
 
@@ -178,7 +177,7 @@ module _ {p : ℕ} {base : List ℕ} {d m : ℕ} {part : List ℕ} (given : Give
                 (lift-by p (large given) _ _ _ _ (sym (poly-held (chosen .held))) (U .is .is) r) in
                 record {
                   is = ap (λ f. partWith (parts.splitInto parts.power (parts.factor f m ∷ []))) list
-                      ∙ returned chosen (returns-root p G γ m Q repeated not-zero divides-m1 (asked false t));
+                      ∙ returned (returns-root p G γ m Q repeated not-zero divides-m1 (asked false t));
                   held = record { base = given .baseHeld; first = held; second = none-held };
                 }
 

@@ -33,7 +33,7 @@ pub struct Factor {
     pub times: usize,
 }
 
-// "The verdict is held inside the part's record". The second factor counts only where the verdict is split.
+// "The verdict is held inside the part's record". `base` is G, of that degree, and `exponent` is m. The second factor counts only where the verdict is split.
 pub struct Part {
     pub base: Coefs,
     pub degree: usize,
@@ -43,7 +43,7 @@ pub struct Part {
     pub second: Factor,
 }
 
-// A part with one factor.
+// A part over G^m with one factor: its coefficients, its degree, its times.
 fn one_factor(
     base: Coefs,
     d: usize,
@@ -74,27 +74,27 @@ fn one_factor(
     }
 }
 
-// g, k times, and the last factor once.
+// A part over G^m with the pairs (g, m1) and (last, 1); `degree` is that of `last`.
 fn two_factors(
     base: Coefs,
     g: Coefs,
     d: usize,
     m: usize,
-    k: usize,
+    m1: usize,
     last: Coefs,
     degree: usize,
 ) -> Part
-    ensures { λ r. ⌜ r ≡ twoFactors base g d m k last degree ⌝ }
+    ensures { λ r. ⌜ r ≡ twoFactors base g d m m1 last degree ⌝ }
 {
     Part {
         base: base,
         degree: d,
         exponent: m,
-        verdict: Verdict::Split(k),
+        verdict: Verdict::Split(m1),
         first: Factor {
             coefs: g,
             degree: d,
-            times: k,
+            times: m1,
         },
         second: Factor {
             coefs: last,
@@ -113,13 +113,14 @@ fn splits(m: usize, m1: usize, p: u16) -> bool
     if a == 0 { true } else { m1 <= m - 2 }
 }
 
-// Algorithm 4.5, line by line, where f is primary, of degree n, and q is its bar; `base` is G, and `h` is h bar.
-pub fn split_part(f: Coefs, q: Coefs, n: usize, p: u16) -> Part
-    requires { ⌜ PrimaryArray p f q n ⌝ }
+// Algorithm 4.5 for r = 1, line by line, where f is primary and of degree n, and `bar` is f̄. `base` is G, of degree d, and `h` is h̄, which is zero where its
+// size is 0; w and u are reduced modulo p, so they are w̄ and ū.
+pub fn split_part(f: Coefs, bar: Coefs, n: usize, p: u16) -> Part
+    requires { ⌜ PrimaryArray p f bar n ⌝ }
     ensures { λ r. ⌜ PartFound p f n r ⌝ }
 {
     // "Determine G ∈ GF(p^r)[x] and m ≥ 1 so that f̄ = G^m and G is irreducible."
-    let found = base_and_exponent(q, n, p);
+    let found = base_and_exponent(bar, n, p);
     let base = found.base;
     let d = found.degree;
     let m = found.exponent;

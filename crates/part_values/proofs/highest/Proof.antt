@@ -11,16 +11,16 @@ use Rattle.part_values.proofs.highest.Statement.{statement}
 use Rattle.part_values.proofs.highest.Tie as tie
 
 abbrev Inv-loop : tie.InvT-loop
-Inv-loop base d m p last w₀ k₀ w k = Cofactor p w₀ base k w × (k ≤ last)
+Inv-loop base d m p most w₀ k₀ w k = Cofactor p w₀ base k w × (k ≤ most)
 
 abbrev μ-loop : tie.MeasureT-loop
-μ-loop base d m p last w₀ k₀ w k = last - k
+μ-loop base d m p most w₀ k₀ w k = most - k
 
 pub highest-spec : {M : Type 1} → statement M
 highest-spec =
     tie.close
     (tie.spec Inv-loop μ-loop
-    (λ c. omega (arith, c .pre .0 .given .over .positive))  -- sub-last
+    (λ c. omega (arith, c .pre .0 .given .over .positive))  -- sub-most
     (λ c. (cofactor-none _ _ _ (c .pre .0 .is .is .reduced), search needs))  -- loop-holds
     (λ c. search needs)  -- sub-divide
     (λ c. omega (arith, rest-room _ (c .before .loop .k) _ (part-room (c .before .before .pre .0 .given))))  -- mul-divide

@@ -15,7 +15,7 @@ use Rattle.arrays.specs.Sizes.{size-zero, size-nonzero}
 use Rattle.items.specs.PartForm.{at-least-two}
 use Rattle.part_values.specs.declared.BarPower.{BarPower}
 use Rattle.part_values.specs.declared.Multiplicity.{Multiplicity}
-use Rattle.part_values.specs.Given.{Given, large, degree-room, part-room, g-is-monic}
+use Rattle.part_values.specs.Given.{Given, large, degree-room, part-room, g-is-monic, digit-chosen}
 use Rattle.part_values.specs.Primary.{primary-bar, part-given}
 use Rattle.part_values.specs.ArrayValues.{IsDigitLift, IsHBar, AreM1AndW, IsU, HBarOver, WOver}
 use Rattle.part_values.proofs.Degrees.{rest-room}
@@ -154,7 +154,7 @@ split-part-spec =
     let at = c .before .before in
     rw (c .one-factor .ensures)
     (part-found (given at) refl (degree-is at)
-    (split-basic (given at) (c .before .if1 .taken) (degree-is at))))  -- returns
+    (split-basic (given at) (digit-chosen (given at)) (c .before .if1 .taken) (degree-is at))))  -- returns
     (λ c κs. search needs)  -- digit-lift-requires
     (λ c κs. (_, given (base-of c), lift-is c .chosen))  -- h-bar-requires
     (λ c κs. search needs)  -- size-requires
