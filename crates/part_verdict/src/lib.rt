@@ -33,7 +33,7 @@ pub struct Factor {
     pub times: usize,
 }
 
-// "The verdict is held inside the part's record". `base` is G, of that degree, and `exponent` is m. The second factor counts only where the verdict is split.
+// "The verdict is held inside the part's record". `base` is G, `degree` its degree and `exponent` m. The second factor counts only where the verdict is split.
 pub struct Part {
     pub base: Coefs,
     pub degree: usize,
