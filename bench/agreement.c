@@ -3,7 +3,25 @@
 
 #include "bench.h"
 
-enum { PART = 0x11, FACTOR = 0x12, COEFFICIENT = 0x03, END = 0x0F, SOLID = 2 };
+enum { PART = 0x11, FACTOR = 0x12, COEFFICIENT = 0x03, WIDE_COEFFICIENT = 0x05, END = 0x0F, SOLID = 2 };
+
+static size_t command_length(uint8_t command)
+{
+    switch (command) {
+    case PART:
+    case 0x13:
+    case WIDE_COEFFICIENT:
+        return 4;
+    case FACTOR:
+    case COEFFICIENT:
+    case 0x14:
+        return 3;
+    case END:
+        return 1;
+    default:
+        return 2;
+    }
+}
 
 void make_bar(nmod_poly_t bar, const polynomial *f)
 {
@@ -17,8 +35,8 @@ static void read_bar(nmod_poly_t bar, const uint8_t *at, unsigned prime)
 {
     nmod_poly_zero(bar);
     nmod_poly_set_coeff_ui(bar, at[1], 1);
-    for (at += 3; *at == COEFFICIENT; at += 3)
-        nmod_poly_set_coeff_ui(bar, at[1], at[2] % prime);
+    for (at += 3; *at == COEFFICIENT || *at == WIDE_COEFFICIENT; at += command_length(*at))
+        nmod_poly_set_coeff_ui(bar, at[1], (*at == COEFFICIENT ? at[2] : at[2] + 256u * at[3]) % prime);
 }
 
 /* Whether G to the m is among the factors, for the part at `at`. A solid part's factor has the bar G^m, every other part's first one G.
@@ -39,11 +57,6 @@ static int strike_out(nmod_poly_factor_t factors, const uint8_t *at, unsigned pr
     nmod_poly_clear(bar);
     nmod_poly_clear(power);
     return found;
-}
-
-static size_t command_length(uint8_t command)
-{
-    return command == PART || command == 0x13 ? 4 : command == FACTOR || command == COEFFICIENT || command == 0x14 ? 3 : command == 0x0F ? 1 : 2;
 }
 
 int agrees(const polynomial *f, const uint8_t *answer, size_t length)
@@ -92,7 +105,7 @@ int lines_that_agree(void)
 {
     uint8_t sheet[KUZHMADER_AREA];
     int agreed = 0;
-    for (const polynomial *f = &polynomials[0][0][0]; f < &polynomials[0][0][0] + PRIMES * KINDS * EACH; f++) {
+    for (const polynomial *f = &polynomials[0][0][0]; f < &polynomials[0][0][0] + EARLIER_PRIMES * KINDS * EACH; f++) {
         kuzhmader_outcome typed = kuzhmader_typed(f->line, f->line_length, sheet, KUZHMADER_AREA);
         agreed += typed.count == f->sheet_length && memcmp(sheet, f->sheet, typed.count) == 0;
     }

@@ -1,7 +1,8 @@
 /* Times `kuzhmader_split` (the whole answer, from bytes to bytes) and FLINT's `nmod_poly_factor` (of the bar, modulo p) in one process on
  * the same polynomials of degree 32. A polynomial's time is the best of five rounds of repeated calls; a line has the medians over a kind.
- * Then `kuzhmader_copy` beside `kuzhmader_split` on the same ones, and `kuzhmader_typed` on lines of them, and on one of powers; then the random ones,
- * without 0x04 and with it, and a plain walk to the run length, which is above 65,535 for nearly all of them.
+ * Then `kuzhmader_copy` beside `kuzhmader_split` on the same ones, and `kuzhmader_typed` on lines of those of 2 and 7, and on two of powers; then the random
+ * ones, without 0x04 and with it, and a plain walk to the run length, which is above 65,535 for nearly all of them.
+ * Checksums are given for all polynomials, and for those of 2 and 7 alone, which are the ones of before request 5.
  * Ends with status 1 if an answer disagrees with FLINT, a copy with the answer, a run length with the walk or a line with its sheet, or if 64 KiB of
  * stack are not enough, 512 KiB for `kuzhmader_typed`. */
 #include <inttypes.h>
@@ -131,81 +132,88 @@ static void time_kind(unsigned p, unsigned kind, double (*calls)(const polynomia
     fflush(stdout);
 }
 
-static void time_kinds(const char *names, double (*calls)(const polynomial *, int), double (*beside)(const polynomial *, int))
+static void time_kinds(const char *names, unsigned count, double (*calls)(const polynomial *, int), double (*beside)(const polynomial *, int))
 {
     printf("prime  kind  %s    ratio   medians of %d polynomials of degree %d\n", names, EACH, DEGREE);
-    for (unsigned p = 0; p < PRIMES; p++)
+    for (unsigned p = 0; p < count; p++)
         for (unsigned kind = 0; kind < KINDS; kind++)
             time_kind(p, kind, calls, beside);
 }
 
-/* What 0x04 costs: medians of a split without it and with it, of what the second takes more, and of the walks. */
+/* What 0x04 costs: medians of a split without it and with it, of what the second takes more, and of the walks; the one by a table is for the earlier primes. */
 static void time_runs(unsigned p)
 {
     static double without[EACH], with[EACH], more[EACH], plain[EACH], table[EACH];
+    int by_table = p < EARLIER_PRIMES;
     int within = 0;
     for (int i = 0; i < EACH; i++) {
         without[i] = timed(split_calls, &without_run[p][i]);
         with[i] = timed(split_calls, &with_run[p][i]);
         more[i] = with[i] - without[i];
         plain[i] = timed(plain_walks, &with_run[p][i]);
-        table[i] = timed(table_walks, &with_run[p][i]);
-        within += table_walk(&with_run[p][i]) != 0;
+        table[i] = by_table ? timed(table_walks, &with_run[p][i]) : 0;
+        within += plain_walk(&with_run[p][i]) != 0;
     }
     double shorter = median(without), longer = median(with), run = median(more);
-    printf("%5u  %13.1f %12.1f %12.1f %12.1f %12.1f   (slowest run %.1f; %d of %d up to %d)\n", primes[p], shorter, longer, run, median(plain),
-           median(table), more[EACH - 1], within, EACH, RUN_LIMIT);
+    printf("%5u  %13.1f %12.1f %12.1f %12.1f ", primes[p], shorter, longer, run, median(plain));
+    if (by_table)
+        printf("%12.1f", median(table));
+    else
+        printf("%12s", "-");
+    printf("   (slowest run %.1f; %d of %d up to %d)\n", more[EACH - 1], within, EACH, RUN_LIMIT);
     fflush(stdout);
 }
 
-/* A line of 255 bytes that asks for much, 28 powers of degree 32; it is turned back only when all are worked out, since their sum is not monic. */
-static void time_powers(void)
+/* A line of up to 255 bytes that asks for much, as many powers of degree 32 as fit; it is turned back only when all are worked out, since their sum is not
+   monic. */
+static void time_powers(const char *first, const char *power)
 {
     static polynomial f;
-    static const char first[] = "7:x", power[] = "+(x+6)^32";
+    int powers = 0;
     memcpy(f.line, first, strlen(first));
-    for (f.line_length = strlen(first); f.line_length < LINE_BYTES; f.line_length += strlen(power))
+    for (f.line_length = strlen(first); f.line_length + strlen(power) <= LINE_BYTES; f.line_length += strlen(power), powers++)
         memcpy(f.line + f.line_length, power, strlen(power));
-    printf("typed µs, a sum of 28 powers (x+6)^32, %zu bytes: %.1f\n", f.line_length, timed(typed_calls, &f));
+    printf("typed µs, %s and %d times %s, %zu bytes: %.1f\n", first, powers, power, f.line_length, timed(typed_calls, &f));
 }
 
-/* How many of the answers or copies agree; the checksum of their bytes (FNV-1a) tells two builds apart. */
-static int compared(kuzhmader_call *call, const polynomial *f, int count, int (*good)(const polynomial *, const uint8_t *, size_t), uint64_t *checksum)
+/* Whether all answers or copies agree, `each` of them for a prime. The checksum of their bytes (FNV-1a) tells two builds apart; that of the earlier primes,
+   which come first, is also given alone. */
+static int compared(const char *what, kuzhmader_call *call, const polynomial *f, int each, int (*good)(const polynomial *, const uint8_t *, size_t))
 {
     uint8_t area[KUZHMADER_AREA];
+    uint64_t checksum = 0xCBF29CE484222325u, earlier = 0;
     int agreed = 0;
-    *checksum = 0xCBF29CE484222325u;
-    for (int i = 0; i < count; i++) {
+    for (int i = 0; i < PRIMES * each; i++) {
         kuzhmader_outcome outcome = call(f[i].sheet, f[i].sheet_length, area, KUZHMADER_AREA);
         for (size_t k = 0; k < outcome.count; k++)
-            *checksum = (*checksum ^ area[k]) * 0x100000001B3u;
+            checksum = (checksum ^ area[k]) * 0x100000001B3u;
         agreed += outcome.number == KUZHMADER_DONE && good(f + i, area, outcome.count);
+        if (i + 1 == EARLIER_PRIMES * each)
+            earlier = checksum;
     }
-    return agreed;
+    printf("%s: %d of %d, checksum %016" PRIx64 ", of the primes 2 and 7 alone %016" PRIx64 "\n", what, agreed, PRIMES * each, checksum, earlier);
+    return agreed == PRIMES * each;
 }
 
 int main(void)
 {
-    uint64_t checksum, of_runs, of_copies;
     make_polynomials();
-    int agreed = compared(kuzhmader_split, &polynomials[0][0][0], PRIMES * KINDS * EACH, agrees, &checksum);
-    int runs = compared(kuzhmader_split, &with_run[0][0], PRIMES * EACH, run_agrees, &of_runs);
-    int copies = compared(kuzhmader_copy, &polynomials[0][0][0], PRIMES * KINDS * EACH, copy_agrees, &of_copies);
-    printf("parts that agree with FLINT %s: %d of %d, checksum of the answers %016" PRIx64 "\n", FLINT_VERSION, agreed, PRIMES * KINDS * EACH, checksum);
-    printf("run lengths that agree with a walk: %d of %d, checksum of the answers %016" PRIx64 "\n", runs, PRIMES * EACH, of_runs);
-    printf("copies that agree with the answers: %d of %d, checksum of the copies %016" PRIx64 "\n", copies, PRIMES * KINDS * EACH, of_copies);
+    int good = compared("parts that agree with FLINT " FLINT_VERSION, kuzhmader_split, &polynomials[0][0][0], KINDS * EACH, agrees);
+    good = compared("run lengths that agree with a walk", kuzhmader_split, &with_run[0][0], EACH, run_agrees) && good;
+    good = compared("copies that agree with the answers", kuzhmader_copy, &polynomials[0][0][0], KINDS * EACH, copy_agrees) && good;
     int lines = lines_that_agree();
-    printf("typed lines that agree with their sheets: %d of %d\n", lines, PRIMES * KINDS * EACH);
-    time_kinds("    library µs     FLINT µs", split_calls, flint_calls);
-    time_kinds("       copy µs     split µs", copy_calls, split_calls);
-    time_kinds("      typed µs     split µs", typed_calls, split_calls);
-    time_powers();
+    printf("typed lines that agree with their sheets: %d of %d\n", lines, EARLIER_PRIMES * KINDS * EACH);
+    time_kinds("    library µs     FLINT µs", PRIMES, split_calls, flint_calls);
+    time_kinds("       copy µs     split µs", PRIMES, copy_calls, split_calls);
+    time_kinds("      typed µs     split µs", EARLIER_PRIMES, typed_calls, split_calls);
+    time_powers("7:x", "+(x+6)^32");
+    time_powers("251:x", "+(x+62999)^32");
     printf("prime  without 04 µs   with 04 µs       run µs      walk µs     table µs   medians of %d random polynomials of degree %d\n", EACH, DEGREE);
     for (unsigned p = 0; p < PRIMES; p++)
         time_runs(p);
     size_t used = stack_of_answers(), by_copy = stack_of_copies(), by_typed = stack_of_lines();
     printf("stack touched by split and read: %zu bytes, by copy: %zu, limit %d; by typed: %zu, limit %d\n", used, by_copy, STACK_LIMIT, by_typed,
            TYPED_STACK_LIMIT);
-    int all = PRIMES * KINDS * EACH, low = used < STACK_LIMIT && by_copy < STACK_LIMIT && by_typed < TYPED_STACK_LIMIT;
-    return agreed != all || runs != PRIMES * EACH || copies != all || lines != all || !low;
+    int low = used < STACK_LIMIT && by_copy < STACK_LIMIT && by_typed < TYPED_STACK_LIMIT;
+    return !good || lines != EARLIER_PRIMES * KINDS * EACH || !low;
 }

@@ -7,14 +7,16 @@
 #include "kuzhmader.h"
 
 #define DEGREE KUZHMADER_LIMIT
-#define SHEET_BYTES (6 + 3 * DEGREE)
+#define SHEET_BYTES (6 + 4 * DEGREE)
 #define LINE_BYTES 255
-#define PRIMES 2
+#define PRIMES 5
+#define EARLIER_PRIMES 2 /* the first of them, with which checksums of before request 5 are compared, and which alone have lines */
 #define KINDS 3
 #define EACH 200
 #define RUN_LIMIT 65535
 
-/* A monic polynomial of degree 32 modulo p², constant first, its sheet, and a typed line of it: p:((..(x+c)*x+c)*x+..)*x+c. */
+/* A monic polynomial of degree 32 modulo p², constant first, its sheet, and a typed line of it: p:((..(x+c)*x+c)*x+..)*x+c. From p = 31 on such a line would
+   not fit 255 bytes, and there is none. A coefficient is below 63,001, so a product of two and one more is below 2^32. */
 typedef struct {
     unsigned prime;
     unsigned coefs[DEGREE + 1];
@@ -27,7 +29,7 @@ typedef struct {
 extern const unsigned primes[PRIMES];
 extern const char *const kinds[KINDS];
 
-/* The polynomials of all kinds for all primes: the same ones in every run. */
+/* The polynomials of all kinds for all primes, those of the earlier primes first: the same ones in every run. */
 extern polynomial polynomials[PRIMES][KINDS][EACH];
 /* The random ones again, with a constant coefficient that p does not divide, first without 0x04 and then with it. */
 extern polynomial without_run[PRIMES][EACH], with_run[PRIMES][EACH];
@@ -42,18 +44,19 @@ int agrees(const polynomial *f, const uint8_t *answer, size_t length);
 /* Whether a copy has the degrees and times of the answer's factors, sorted. */
 int copy_agrees(const polynomial *f, const uint8_t *copy, size_t length);
 
-/* The run length of f, by a walk of at most RUN_LIMIT pulses; 0 if it is longer. The second takes its multiples of f from a table, and adds bytes. */
+/* The run length of f, by a walk of at most RUN_LIMIT pulses; 0 if it is longer. The second takes its multiples of f from a table, and adds bytes: for the
+   earlier primes only, since a table for a large modulus would take longer than the walk. */
 unsigned plain_walk(const polynomial *f);
 unsigned table_walk(const polynomial *f);
 
 /* Whether an answer's run length is that of a walk. */
 int run_agrees(const polynomial *f, const uint8_t *answer, size_t length);
 
-/* How many of the polynomials have the sheet that their line gives, byte for byte. */
+/* How many of the polynomials with a line have the sheet that it gives, byte for byte. */
 int lines_that_agree(void);
 
 /* Bytes of stack that splitting all polynomials, with 0x04 too, and reading all answers, touches at most; copying them; and typed lines, theirs and those
-   with as many brackets as a line holds. */
+   with as many brackets as a line holds, for the least prime and for the greatest. */
 size_t stack_of_answers(void);
 size_t stack_of_copies(void);
 size_t stack_of_lines(void);

@@ -4,7 +4,7 @@
 
 #include "bench.h"
 
-const unsigned primes[PRIMES] = {2, 7};
+const unsigned primes[PRIMES] = {2, 7, 31, 127, 251};
 const char *const kinds[KINDS] = {"random", "linear", "powers"};
 polynomial polynomials[PRIMES][KINDS][EACH], without_run[PRIMES][EACH], with_run[PRIMES][EACH];
 
@@ -64,20 +64,30 @@ static void make_powers(unsigned *f, unsigned n)
     multiply(f, &top, g, DEGREE - top, n);
 }
 
+/* 0x03 and a byte up to the prime 13, 0x05 and two bytes, low byte first, from 17 on. */
+static uint8_t *write_coefficient(uint8_t *at, unsigned prime, unsigned index, unsigned value)
+{
+    int wide = prime > 13;
+    *at++ = wide ? 0x05 : 0x03, *at++ = (uint8_t)index, *at++ = (uint8_t)(value % 256);
+    if (wide)
+        *at++ = (uint8_t)(value / 256);
+    return at;
+}
+
 static void write_sheet(polynomial *f, int run)
 {
     uint8_t *at = f->sheet;
     *at++ = 0x01, *at++ = (uint8_t)f->prime, *at++ = 0x02, *at++ = DEGREE;
     for (unsigned i = 0; i < DEGREE; i++)
         if (f->coefs[i] != 0)
-            *at++ = 0x03, *at++ = (uint8_t)i, *at++ = (uint8_t)f->coefs[i];
+            at = write_coefficient(at, f->prime, i, f->coefs[i]);
     if (run)
         *at++ = 0x04;
     *at++ = 0x0F;
     f->sheet_length = (size_t)(at - f->sheet);
 }
 
-/* A line of 223 bytes at most. */
+/* A line of 223 bytes at most, for an earlier prime. */
 static void write_line(polynomial *f)
 {
     char text[LINE_BYTES + 1];
@@ -102,7 +112,8 @@ static void make(polynomial *f, unsigned prime, unsigned kind)
     else
         make_powers(f->coefs, n);
     write_sheet(f, 0);
-    write_line(f);
+    if (prime <= primes[EARLIER_PRIMES - 1])
+        write_line(f);
 }
 
 /* The i-th random polynomial, its constant coefficient larger by 1 where p divides it. */

@@ -3,7 +3,7 @@
 
 #include "bench.h"
 
-/* A pulse modulo f and n = p²: the state times x. */
+/* A pulse modulo f and n = p²: the state times x. A sum here is at most 63,001·63,000 + 63,000, which is below 2^32. */
 static void pulse(const unsigned *f, unsigned n, unsigned *state)
 {
     unsigned top = n - state[DEGREE - 1];

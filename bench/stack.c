@@ -46,12 +46,12 @@ static void *copy_all(void *argument)
 }
 
 /* A line of 255 bytes that has open brackets behind its colon. It is turned back at its end, when the last bytes have been worked out inside of all of them. */
-static void type_brackets(const char *last)
+static void type_brackets(const char *first, const char *last)
 {
     uint8_t line[LINE_BYTES];
     size_t length = strlen(last);
     memset(line, '(', sizeof line);
-    memcpy(line, "2:", 2);
+    memcpy(line, first, strlen(first));
     memcpy(line + sizeof line - length, last, length);
     kuzhmader_typed(line, sizeof line, answers[0], KUZHMADER_AREA);
 }
@@ -59,12 +59,16 @@ static void type_brackets(const char *last)
 static void *type_all(void *argument)
 {
     static const char *const last[] = {"", "x", "x^2", "x*x", "x-x", "x^2*x-x"};
+    static const char wide[] = "251:(x+62999)^16*(x^2+62998*x-65535)^8";
     uint8_t here;
     caller = (uintptr_t)&here;
-    for (const polynomial *f = &polynomials[0][0][0]; f < &polynomials[0][0][0] + PRIMES * KINDS * EACH; f++)
+    for (const polynomial *f = &polynomials[0][0][0]; f < &polynomials[0][0][0] + EARLIER_PRIMES * KINDS * EACH; f++)
         kuzhmader_typed(f->line, f->line_length, answers[0], KUZHMADER_AREA);
-    for (size_t i = 0; i < sizeof last / sizeof last[0]; i++)
-        type_brackets(last[i]);
+    kuzhmader_typed((const uint8_t *)wide, strlen(wide), answers[0], KUZHMADER_AREA);
+    for (size_t i = 0; i < sizeof last / sizeof last[0]; i++) {
+        type_brackets("2:", last[i]);
+        type_brackets("251:", last[i]);
+    }
     return argument;
 }
 

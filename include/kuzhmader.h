@@ -10,7 +10,7 @@
  *   why, `place` says where in the input (counted from 0), and `count` is 0. Bytes of the area from `count` on keep their values. The place of a
  *   refused copy is always 0.
  * - The calls keep nothing between them, take no memory from the heap, and may run in several threads at once.
- * - The stack is the caller's: 40,647 bytes at most were measured for split, read and copy, and 358,015 for `kuzhmader_typed`, on a line of 253 open
+ * - The stack is the caller's: 51,119 bytes at most were measured for split, read and copy, and 358,335 for `kuzhmader_typed`, on a line of 253 open
  *   brackets. Give a thread that types lines half a megabyte.
  */
 #ifndef KUZHMADER_H
@@ -34,11 +34,11 @@ enum kuzhmader_number {
     KUZHMADER_DONE = 0,
     KUZHMADER_AREA_TOO_SHORT = 1,     /* the answer area is shorter than KUZHMADER_AREA; place 0 */
     KUZHMADER_SHEET_ENDS = 2,         /* the sheet ends where a command or operand is due; the place is its length */
-    KUZHMADER_NO_COMMAND = 3,         /* a byte at a command's place is not a command allowed there */
-    KUZHMADER_NO_PRIME = 4,           /* the prime is not 2, 3, 5 or 7; place 0 from `kuzhmader_typed` */
+    KUZHMADER_NO_COMMAND = 3,         /* a byte at a command's place is not a command allowed there, the other one of 0x03 and 0x05 too */
+    KUZHMADER_NO_PRIME = 4,           /* the prime is none of the 54 primes below 256; place 0 from `kuzhmader_typed` */
     KUZHMADER_DEGREE = 5,             /* the degree is 0 or above 32 */
     KUZHMADER_INDEX = 6,              /* a coefficient's index is not below the degree, or not above the one before it */
-    KUZHMADER_VALUE = 7,              /* a coefficient's value is 0, or p² or more */
+    KUZHMADER_VALUE = 7,              /* a coefficient's value is 0, or p² or more; the place is that of its first byte */
     KUZHMADER_PAST_THE_END = 8,       /* a byte follows the end command */
     KUZHMADER_NO_ANSWER = 9,          /* what the answer reader is given is not the answer to any sheet; place 0 */
     KUZHMADER_NOT_PROPER = 10,        /* a record handed to the arithmetic is not proper */
@@ -57,8 +57,9 @@ typedef struct {
     size_t count;
 } kuzhmader_outcome;
 
-/* From a sheet to its answer. A sheet with 0x04 just before its 0x0F asks for its run length: the answer then has 0x14 before its 0x0F, and the
- * number in two bytes, low byte first, 0 if it is above 65,535. */
+/* From a sheet to its answer. For the primes up to 13 a coefficient is 0x03, index, value, in sheets and answers alike; for those from 17 up it is 0x05,
+ * index, and the value in two bytes, low byte first. A sheet has at most 134 bytes. A sheet with 0x04 just before its 0x0F asks for its run length: the
+ * answer then has 0x14 before its 0x0F, and the number in two bytes, low byte first, 0 if it is above 65,535. */
 kuzhmader_outcome kuzhmader_split(const uint8_t *sheet, size_t sheet_length, uint8_t *area, size_t area_length);
 
 /* From an answer back to its sheet, with 0x04 if the answer has 0x14. */

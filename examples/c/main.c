@@ -1,21 +1,23 @@
 /* Splits document 01's example, x³ + 6x² + 4 modulo 9, typed as it is spoken, and asks for its run length; prints the answer as the program `split` does,
- * reads the answer back, and prints the bytes of the copy that purchasing may see. */
+ * reads the answer back, and prints the bytes of the copy that purchasing may see. Then the same for a ring with 17 teeth, modulo 289, whose coefficients
+ * take two bytes. */
 #include <stdio.h>
 #include <string.h>
 
 #include "kuzhmader.h"
 
-static const char line[] = "3: (x+1)^2*(x+4)";
+static const char *const lines[] = {"3: (x+1)^2*(x+4)", "17: (x-1)^2*(x+4)"};
 
 static const char *const verdicts[] = {"", "basic", "solid", "power", "split"};
 
-/* Prints the factor whose command stands at `at`, and gives the place after its coefficients. */
+/* Prints the factor whose command stands at `at`, and gives the place after its coefficients: those up to the prime 13 are 0x03 with one byte, those from 17
+ * on 0x05 with two, low byte first. */
 static const uint8_t *print_factor(const uint8_t *at)
 {
     unsigned degree = at[1], coefs[KUZHMADER_LIMIT] = {0};
     printf("factor %u", at[2]);
-    for (at += 3; *at == 0x03; at += 3)
-        coefs[at[1]] = at[2];
+    for (at += 3; *at == 0x03 || *at == 0x05; at += *at == 0x03 ? 3 : 4)
+        coefs[at[1]] = *at == 0x03 ? at[2] : at[2] + 256u * at[3];
     for (unsigned i = 0; i < degree; i++)
         printf(" %u", coefs[i]);
     printf(" 1\n");
@@ -53,8 +55,8 @@ static int refused(kuzhmader_outcome outcome)
     return outcome.number != KUZHMADER_DONE;
 }
 
-/* The sheet of the line, which ends with 0x0F, and 0x04 before that. Gives its length, 0 if the line is refused. */
-static size_t make_sheet(uint8_t sheet[KUZHMADER_AREA])
+/* The sheet of a line, which ends with 0x0F, and 0x04 before that. Gives its length, 0 if the line is refused. */
+static size_t make_sheet(const char *line, uint8_t sheet[KUZHMADER_AREA])
 {
     kuzhmader_outcome typed = kuzhmader_typed_nullable((const uint8_t *)line, strlen(line), sheet, KUZHMADER_AREA);
     if (refused(typed))
@@ -64,10 +66,11 @@ static size_t make_sheet(uint8_t sheet[KUZHMADER_AREA])
     return typed.count + 1;
 }
 
-int main(void)
+/* A line from its sheet to its copy. Gives 1 if a call is refused or the answer does not lead back. */
+static int show(const char *line)
 {
     uint8_t sheet[KUZHMADER_AREA], answer[KUZHMADER_AREA], back[KUZHMADER_AREA], copy[KUZHMADER_AREA];
-    size_t length = make_sheet(sheet);
+    size_t length = make_sheet(line, sheet);
     kuzhmader_outcome split = kuzhmader_split_nullable(sheet, length, answer, sizeof answer);
     if (length == 0 || refused(split))
         return 1;
@@ -84,4 +87,9 @@ int main(void)
     }
     print_copy(copy, copied.count);
     return 0;
+}
+
+int main(void)
+{
+    return show(lines[0]) || show(lines[1]);
 }

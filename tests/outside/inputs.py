@@ -1,11 +1,11 @@
 """Inputs for the built library: good sheets, answers and typed lines of all kinds, sheets and answers with 0x04 and 0x14 and without, damaged ones, random
-bytes, and sheets that are alike in all that a copy shows."""
+bytes, and sheets that are alike in all that a copy shows. Half of them are for the primes up to 7, half for the 50 others."""
 
 import random
 from typing import Iterator, NamedTuple, Sequence
 
 from answers import RUN_LENGTH, answer_bytes
-from arithmetic import LIMIT, TAKEN_PRIMES
+from arithmetic import FIRST_PRIMES, LATER_PRIMES, LIMIT
 from byte_strings import TELLING, damaged, some_bytes
 from known_figures import drawn_shapes, pairs_of, sheets_with
 from known_lines import any_line, damaged_line, some_line, some_signs
@@ -14,8 +14,15 @@ from sheet_cases import AREAS, Call, short_sheets
 from sheets import END, RUN, Refusal, Sheet, read_sheet, sheet_bytes
 from splitter import AREA
 from typed_value_cases import NUMBERS
+from wide_cases import NOT_PRIMES, short_wide_sheets
+from wide_polynomials import sheets_with_runs, wide_sheets
 
-COMMANDS = (0, 1, 2, 3, 4, 15, 17, 18, 19, 20)
+COMMANDS = (0, 1, 2, 3, 4, 5, 15, 17, 18, 19, 20)
+
+
+def some_prime(source: random.Random) -> int:
+    """One of the primes up to 7 or, as often, one of the others."""
+    return source.choice(source.choice((FIRST_PRIMES, LATER_PRIMES)))
 
 
 class Pools(NamedTuple):
@@ -46,16 +53,25 @@ def accepted(sheets: Sequence[bytes]) -> list:
     return found
 
 
+def shuffled(source: random.Random, strings: list) -> list:
+    """The same in another order."""
+    return source.sample(strings, len(strings))
+
+
 def pools(source: random.Random) -> Pools:
-    """The pools of one run. Two of three short and full sheets are as they were, the others ask for their run, and may be refused with 14."""
-    good = [sheet_bytes(sheet) for sheet in all_sheets()]
-    asked = accepted(map(asking, source.sample(good, 2000)))
-    short = short_sheets(source, 4000)
-    full = [sheet_bytes(Sheet(p, some_monic(source, p * p, LIMIT))) for p in TAKEN_PRIMES for _ in range(50)]
-    answers = [answer_bytes(read_sheet(data)) for data in source.sample(good, 1500) + short[:1500] + full]
-    runs = [answer_bytes(read_sheet(data)) for data in asked[:700] + accepted(map(asking, short[:1500])) + accepted(map(asking, full[::4]))]
-    lines = [some_line(source) for _ in range(4000)] + [any_line(source) for _ in range(2000)]
-    return Pools(good + asked, short + [asking(data) for data in short[::2]], full + [asking(data) for data in full[::2]], answers + runs, runs, lines)
+    """The pools of one run, half for the primes up to 7 and half for the others.
+
+    Two of three short and full sheets are as they were, the others ask for their run, and may be refused with 14.
+    """
+    good = [sheet_bytes(sheet) for sheet in all_sheets() + list(wide_sheets())]
+    asked = accepted(map(asking, source.sample(good, 3000))) + list(map(sheet_bytes, sheets_with_runs()))
+    short = shuffled(source, short_sheets(source, 4000) + accepted(short_wide_sheets(source, LATER_PRIMES * 90)))
+    full = [sheet_bytes(Sheet(p, some_monic(source, p * p, LIMIT))) for p in FIRST_PRIMES * 50 + LATER_PRIMES * 4]
+    plain = [data for data in short if not read_sheet(data).run]
+    answers = [answer_bytes(read_sheet(data)) for data in source.sample(good, 2500) + plain[:2500] + full]
+    runs = [answer_bytes(read_sheet(data)) for data in shuffled(source, asked)[:1200] + accepted(map(asking, plain[:2000])) + accepted(map(asking, full[::8]))]
+    lines = [kind(source, primes) for kind, count in ((some_line, 4000), (any_line, 2000)) for primes in (FIRST_PRIMES, LATER_PRIMES) for _ in range(count)]
+    return Pools(good + asked, short + [asking(data) for data in plain[::2]], full + [asking(data) for data in full[::2]], answers + runs, runs, lines)
 
 
 def some_area(source: random.Random) -> int:
@@ -65,8 +81,13 @@ def some_area(source: random.Random) -> int:
 
 def headed(source: random.Random, top: int, length: int, values: Sequence[int]) -> bytes:
     """A good prime and a degree up to the top, then random bytes over the values, fewer than the length."""
-    head = bytes([1, source.choice(TAKEN_PRIMES), 2, source.randrange(1, top + 1)])
+    head = bytes([1, some_prime(source), 2, source.randrange(1, top + 1)])
     return head + some_bytes(source, source.randrange(length), values)
+
+
+def of_another_prime(source: random.Random, data: bytes) -> bytes:
+    """A sheet or an answer with another prime, or with a byte that is none: most often its coefficients are then too wide, too narrow or too large."""
+    return data[:1] + bytes([source.choice((some_prime(source), some_prime(source), source.choice(NOT_PRIMES)))]) + data[2:]
 
 
 def picked(source: random.Random, kinds: Sequence[tuple]) -> bytes:
@@ -85,10 +106,11 @@ def some_sheet(source: random.Random, pool: Pools) -> bytes:
         (10, lambda: source.choice(pool.sheets)),
         (2, lambda: damaged(source, source.choice(pool.full))),
         (2, lambda: source.choice(pool.full) + source.randbytes(source.randrange(1, 2000))),
-        (56, lambda: damaged(source, source.choice(pool.short))),
+        (50, lambda: damaged(source, source.choice(pool.short))),
+        (6, lambda: of_another_prime(source, source.choice(pool.short))),
         (10, lambda: some_bytes(source, source.randrange(20), range(256))),
         (10, lambda: some_bytes(source, source.randrange(20), COMMANDS)),
-        (10, lambda: headed(source, LIMIT, 20, (0, 1, 2, 3, 3, 3, 4, 15))),
+        (10, lambda: headed(source, LIMIT, 20, (0, 1, 2, 3, 3, 3, 4, 5, 5, 5, 15))),
     )
     return picked(source, kinds)
 
@@ -104,7 +126,8 @@ def some_answer(source: random.Random, pool: Pools) -> bytes:
     """A string for the answer reader: one in ten good, most damaged, some with another run, some random, some sheets."""
     kinds = (
         (10, lambda: source.choice(pool.answers)),
-        (65, lambda: damaged(source, source.choice(pool.answers))),
+        (60, lambda: damaged(source, source.choice(pool.answers))),
+        (5, lambda: of_another_prime(source, source.choice(pool.answers))),
         (5, lambda: another_run(source, source.choice(pool.runs))),
         (10, lambda: source.choice(pool.short)),
         (10, lambda: headed(source, 8, 30, (*COMMANDS, *TELLING))),
@@ -123,7 +146,7 @@ def longer(source: random.Random, line: bytes) -> bytes:
 
 def with_number(source: random.Random, line: bytes) -> bytes:
     """A line with another number at its end: as a term, a factor or an exponent, or as its prime."""
-    number = str(source.choice((*NUMBERS, source.randrange(100000)))).encode("ascii")
+    number = str(source.choice((*NUMBERS, source.randrange(100000), *(source.randrange(256) for _ in range(9))))).encode("ascii")
     return source.choice((line + source.choice((b"+", b"-", b"*", b"^", b"+x^", b" + 0 * ")) + number, number + b":" + line.split(b":", 1)[1]))
 
 
@@ -161,7 +184,7 @@ def alike(source: random.Random, count: int) -> Iterator[tuple]:
     """So many sheets, each with what its copy may show: the figures that it was made for, four sheets to a list of pairs, or its number."""
     pool, made = pools(source), 0
     while made < count:
-        p = source.choice(TAKEN_PRIMES)
+        p = some_prime(source)
         pairs = sorted(pairs_of(p, drawn_shapes(source, p)))
         refused = [data for data in (some_sheet(source, pool) for _ in range(4)) if number_of(data)]
         group = [((p, *pairs), sheet_bytes(sheet)) for sheet in sheets_with(source, p, pairs, 4)]

@@ -6,10 +6,10 @@ from arithmetic import LIMIT, TAKEN_PRIMES
 from parts import parts_of, totals_of
 from polynomials import degree, product_of
 from run_lengths import run_length
-from sheets import COEFFICIENT, DEGREE, END, PRIME, Sheet, coefficient_commands, has_run
+from sheets import COEFFICIENT, DEGREE, END, PRIME, WIDE_COEFFICIENT, Sheet, coefficient_commands, has_run
 
 PART, FACTOR, TOTALS, RUN_LENGTH = 0x11, 0x12, 0x13, 0x14
-OPERANDS = {PRIME: 1, DEGREE: 1, COEFFICIENT: 2, END: 0, PART: 3, FACTOR: 2, TOTALS: 3, RUN_LENGTH: 2}
+OPERANDS = {PRIME: 1, DEGREE: 1, COEFFICIENT: 2, WIDE_COEFFICIENT: 3, END: 0, PART: 3, FACTOR: 2, TOTALS: 3, RUN_LENGTH: 2}
 
 
 def run_command(sheet: Sheet) -> bytes:
@@ -24,12 +24,12 @@ def answer_bytes(sheet: Sheet) -> bytes:
     for part in parts:
         answer += bytes([PART, degree(part.base), part.m, part.verdict])
         for factor, count in part.factors:
-            answer += bytes([FACTOR, degree(factor), count]) + coefficient_commands(factor)
+            answer += bytes([FACTOR, degree(factor), count]) + coefficient_commands(sheet.prime, factor)
     return answer + bytes([TOTALS, *totals_of(parts)]) + run_command(sheet) + bytes([END])
 
 
 def commands(answer: bytes) -> Iterator[tuple]:
-    """The commands in order, each with its operands; ValueError where the bytes are no row of commands."""
+    """The commands in order, each with the bytes of its operands; ValueError where the bytes are no row of commands."""
     place = 0
     while place < len(answer):
         count = OPERANDS.get(answer[place])
@@ -40,14 +40,14 @@ def commands(answer: bytes) -> Iterator[tuple]:
 
 
 def list_read_off(answer: bytes) -> list:
-    """ "for each 0x12 in order, t copies of the monic polynomial of degree e with the coefficients written directly after it" """
+    """ "for each 0x12 in order, t copies of the monic polynomial of degree e with the coefficients written directly after it", by 0x03 or 0x05"""
     pairs, directly_after = [], False
     for command, operands in commands(answer):
         if command == FACTOR:
             pairs.append(([0] * operands[0] + [1], operands[1]))
             directly_after = True
-        elif command == COEFFICIENT and directly_after:
-            index, value = operands
+        elif command in (COEFFICIENT, WIDE_COEFFICIENT) and directly_after:
+            index, value = operands[0], int.from_bytes(bytes(operands[1:]), "little")
             if index >= degree(pairs[-1][0]):
                 raise ValueError("no coefficient below the top: {}".format(index))
             pairs[-1][0][index] = value

@@ -1,4 +1,4 @@
-"""The public arithmetic on polynomial records, written from document 01.
+"""The public arithmetic on polynomial records, written from document 01, for the primes of request 5 of document 02.
 
 Zero, one, x, sum, difference, product and division, with the numbers 10 to 13.
 Every result is worked out over the whole numbers by the school method and reduced modulo p² once, at the end.
@@ -6,7 +6,9 @@ Every result is worked out over the whole numbers by the school method and reduc
 
 from typing import NamedTuple, Optional, Sequence
 
-TAKEN_PRIMES = (2, 3, 5, 7)
+# "All 54 primes below 256 are taken"; the first four are those of document 01.
+TAKEN_PRIMES = tuple(n for n in range(2, 256) if all(n % d != 0 for d in range(2, n)))
+FIRST_PRIMES, LATER_PRIMES = TAKEN_PRIMES[:4], TAKEN_PRIMES[4:]
 LIMIT = 32
 WIDTH = LIMIT + 1
 
@@ -32,7 +34,7 @@ def modulus(prime: int) -> int:
 
 
 def is_proper(record: Record) -> bool:
-    """ "It is proper if the prime is 2, 3, 5 or 7 and every coefficient is below p²." """
+    """ "It is proper if the prime is" taken "and every coefficient is below p²." """
     return record.prime in TAKEN_PRIMES and all(c < modulus(record.prime) for c in record.coefficients)
 
 

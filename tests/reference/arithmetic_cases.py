@@ -7,7 +7,7 @@ import random
 from typing import Iterator, NamedTuple, Optional
 
 import arithmetic
-from arithmetic import LIMIT, TAKEN_PRIMES, WIDTH, Record, modulus
+from arithmetic import FIRST_PRIMES, LIMIT, WIDTH, Record, modulus
 from records import maximal, maximal_monic, monomial, polynomial, some, some_monic, with_coefficient
 
 ZERO, ONE, X, SUM, DIFFERENCE, PRODUCT, DIVISION = range(7)
@@ -44,7 +44,7 @@ def every_prime_byte(source: random.Random) -> Iterator[Case]:
 def every_degree(source: random.Random) -> Iterator[Case]:
     """Records that are taken, either one of every degree and zero."""
     for operation in BINARY:
-        for prime in TAKEN_PRIMES:
+        for prime in FIRST_PRIMES:
             for top in DEGREES:
                 yield from pairs_with_degree(source, operation, prime, top)
 
@@ -64,7 +64,7 @@ def pairs_with_degree(source: random.Random, operation: int, prime: int, top: Op
 def improper_prime(source: random.Random) -> Iterator[Case]:
     """A prime that is not taken: in the first record, in the second and in both."""
     for operation in BINARY:
-        for prime in TAKEN_PRIMES:
+        for prime in FIRST_PRIMES:
             for bad in NOT_PRIMES:
                 a, b = some_pair(source, operation, prime)
                 yield Case(operation, a._replace(prime=bad), b)
@@ -75,7 +75,7 @@ def improper_prime(source: random.Random) -> Iterator[Case]:
 def improper_coefficient(source: random.Random) -> Iterator[Case]:
     """Exactly one coefficient of p² or more, lowest, middle or highest, in the first record, in the second and in both."""
     for operation in BINARY:
-        for prime in TAKEN_PRIMES:
+        for prime in FIRST_PRIMES:
             for index in (0, source.randrange(1, LIMIT), LIMIT):
                 for value in (modulus(prime), modulus(prime) + 1, 65535):
                     a, b = some_pair(source, operation, prime)
@@ -95,8 +95,8 @@ def extreme_bytes(source: random.Random) -> Iterator[Case]:
 def different_primes(source: random.Random) -> Iterator[Case]:
     """Primes that differ: with nothing else at fault, with 10 as well, and with what 12 or 13 would refuse as well."""
     for operation in BINARY:
-        for prime_a in TAKEN_PRIMES:
-            for prime_b in TAKEN_PRIMES:
+        for prime_a in FIRST_PRIMES:
+            for prime_b in FIRST_PRIMES:
                 if prime_a != prime_b:
                     yield from pairs_with_primes(source, operation, prime_a, prime_b)
 
@@ -114,7 +114,7 @@ def pairs_with_primes(source: random.Random, operation: int, prime_a: int, prime
 
 def zero_factors(source: random.Random) -> Iterator[Case]:
     """Products with zero on either side, the other factor of degree 32, 0 or none."""
-    for prime in TAKEN_PRIMES:
+    for prime in FIRST_PRIMES:
         for top in (LIMIT, 0, None):
             yield Case(PRODUCT, polynomial(prime), some(source, prime, top))
             yield Case(PRODUCT, some(source, prime, top), polynomial(prime))
@@ -122,7 +122,7 @@ def zero_factors(source: random.Random) -> Iterator[Case]:
 
 def degrees_at_the_limit(source: random.Random) -> Iterator[Case]:
     """Products whose degrees add to 31, 32, 33 and 64, shared out in every way."""
-    for prime in TAKEN_PRIMES:
+    for prime in FIRST_PRIMES:
         for total in (LIMIT - 1, LIMIT, LIMIT + 1, 2 * LIMIT):
             for top in range(max(0, total - LIMIT), min(LIMIT, total) + 1):
                 yield Case(PRODUCT, some(source, prime, top), some(source, prime, total - top))
@@ -130,7 +130,7 @@ def degrees_at_the_limit(source: random.Random) -> Iterator[Case]:
 
 def vanishing_leading_products(source: random.Random) -> Iterator[Case]:
     """Leading coefficients that multiply to 0 modulo p², degrees adding to 32 and 33: number 12 goes by the degrees."""
-    for prime in TAKEN_PRIMES:
+    for prime in FIRST_PRIMES:
         for total in (LIMIT, LIMIT + 1):
             for top in range(total - LIMIT, WIDTH, 4):
                 yield Case(PRODUCT, monomial(prime, prime, top), monomial(prime, prime, total - top))
@@ -141,7 +141,7 @@ def vanishing_leading_products(source: random.Random) -> Iterator[Case]:
 
 def divisors_not_monic(source: random.Random) -> Iterator[Case]:
     """Divisors that are zero, lead with a unit other than 1, or lead with a multiple of p; of every size against the dividend."""
-    for prime in TAKEN_PRIMES:
+    for prime in FIRST_PRIMES:
         for top in (None, 0, 1, 16, LIMIT):
             yield Case(DIVISION, some(source, prime, top), polynomial(prime))
         units = [c for c in range(2, modulus(prime)) if c % prime != 0]
@@ -156,7 +156,7 @@ def divisors_not_monic(source: random.Random) -> Iterator[Case]:
 
 def divisors_of_note(source: random.Random) -> Iterator[Case]:
     """The divisors 1, x and x^32, and equal, next higher and next lower degrees; the dividend zero with each of them."""
-    for prime in TAKEN_PRIMES:
+    for prime in FIRST_PRIMES:
         powers_of_x = [monomial(prime, 1, index) for index in (0, 1, LIMIT)]
         for divisor in (*powers_of_x, some_monic(source, prime, LIMIT)):
             for top in (None, 0, 1, 16, LIMIT - 1, LIMIT):
@@ -171,7 +171,7 @@ def divisors_of_note(source: random.Random) -> Iterator[Case]:
 
 def divisions_without_remainder(source: random.Random) -> Iterator[Case]:
     """Dividends that are a product of the divisor, and the same with 1 added."""
-    for prime in TAKEN_PRIMES:
+    for prime in FIRST_PRIMES:
         for top in (0, 1, 2, 5, 11, 16, 21, 27, 30, 31, LIMIT):
             divisor = some_monic(source, prime, top)
             dividend = arithmetic.multiply(divisor, some(source, prime, LIMIT - top)).records[0]
@@ -181,7 +181,7 @@ def divisions_without_remainder(source: random.Random) -> Iterator[Case]:
 
 def maximal_coefficients(source: random.Random) -> Iterator[Case]:
     """Every coefficient p² − 1: the largest whole numbers that the operations meet."""
-    for prime in TAKEN_PRIMES:
+    for prime in FIRST_PRIMES:
         full = maximal(prime, LIMIT)
         yield from (Case(SUM, full, full), Case(DIFFERENCE, polynomial(prime), full), Case(DIFFERENCE, full, full))
         for top in range(WIDTH):
@@ -192,7 +192,7 @@ def maximal_coefficients(source: random.Random) -> Iterator[Case]:
 
 def cancelling(source: random.Random) -> Iterator[Case]:
     """Sums and differences that come to zero, or lose their leading coefficient, and those with zero on one side."""
-    for prime in TAKEN_PRIMES:
+    for prime in FIRST_PRIMES:
         for top in (0, 1, 7, 16, 31, LIMIT):
             a = some(source, prime, top)
             negative = arithmetic.subtract(polynomial(prime), a).records[0]

@@ -4,7 +4,7 @@ import itertools
 import random
 from typing import Callable, Iterable, Iterator
 
-from arithmetic import LIMIT, TAKEN_PRIMES
+from arithmetic import FIRST_PRIMES, LIMIT
 from byte_strings import TELLING, beginnings, with_byte_changed, with_byte_left_out, with_byte_put_in, with_bytes_exchanged, with_neighbouring_byte
 from kinds import made_by
 from known_figures import Shape, drawn_shapes, lists_of_pairs, pairs_of, polynomial_with, shapes_with_most_pairs, sheets_with
@@ -52,7 +52,7 @@ def copies_of_all_kinds(source: random.Random) -> Iterator[Call]:
 
 def copies_asked_for_a_run(source: random.Random) -> Iterator[Call]:
     """Sheets without 0x04 and with it: the copy does not show it, or the number is 14."""
-    for sheet in source.sample(made_by(of_low_degree), 100) + [some_sheet(source, p) for p in TAKEN_PRIMES for _ in range(25)]:
+    for sheet in source.sample(made_by(of_low_degree), 100) + [some_sheet(source, p) for p in FIRST_PRIMES for _ in range(25)]:
         yield from calls([sheet._replace(run=False), sheet._replace(run=True)])
 
 
@@ -66,7 +66,7 @@ def some_sheet(source: random.Random, p: int) -> Sheet:
 
 def drawn(source: random.Random, wanted: Callable, count: int) -> Iterator[Call]:
     """So many sheets for each prime, the pairs of whose answers are as wanted."""
-    for p in TAKEN_PRIMES:
+    for p in FIRST_PRIMES:
         shapes = (drawn_shapes(source, p) for _ in itertools.count())
         chosen = itertools.islice((row for row in shapes if wanted(pairs_of(p, row))), count)
         yield from calls(some_asking(source, (Sheet(p, polynomial_with(source, p, row)) for row in chosen)))
@@ -128,7 +128,7 @@ def equal_pairs(source: random.Random) -> Iterator[Call]:
 
 def one_factor(source: random.Random) -> Iterator[Call]:
     """One basic factor of each degree; one solid factor and one factor many times over G of each low degree, up to degree 32."""
-    for p in TAKEN_PRIMES:
+    for p in FIRST_PRIMES:
         shapes = [Shape(d, 1, 0) for d in range(1, LIMIT + 1)]
         shapes += [Shape(d, m, m1) for d in range(1, 6) for m in range(2, LIMIT // d + 1) for m1 in (0, m)]
         yield from calls(Sheet(p, polynomial_with(source, p, [shape])) for shape in shapes)
@@ -136,14 +136,14 @@ def one_factor(source: random.Random) -> Iterator[Call]:
 
 def most_pairs(source: random.Random) -> Iterator[Call]:
     """As many pairs as there can be for each prime: 13, 14, 18 and 19."""
-    for p in TAKEN_PRIMES:
+    for p in FIRST_PRIMES:
         yield from calls(Sheet(p, polynomial_with(source, p, shapes_with_most_pairs(source, p))) for _ in range(25))
 
 
 def linear_factors(source: random.Random) -> Iterator[Call]:
     """32 factors x + a: equal ones, different ones as far as there are, few different ones and any."""
     yield from calls(made_by(equal_factors))
-    for p in TAKEN_PRIMES:
+    for p in FIRST_PRIMES:
         for kinds in (2, 3, 5, p * p):
             for _ in range(12):
                 roots = source.sample(range(p * p), min(kinds, p * p, LIMIT))
@@ -156,14 +156,14 @@ def linear_factors(source: random.Random) -> Iterator[Call]:
 
 def every_list_of_pairs(source: random.Random) -> Iterator[Call]:
     """Every list of pairs of degree 7 or less, as far as parts were found for it: two sheets of each, none alike with another's."""
-    for p in TAKEN_PRIMES:
+    for p in FIRST_PRIMES:
         for top in range(1, 8):
             yield from calls(sheet for pairs in lists_of_pairs(top) for sheet in sheets_with(source, p, pairs, 2))
 
 
 def alike(source: random.Random) -> Iterator[Call]:
     """Groups of six sheets with the same figures: other parts of other kinds in another order, other digits, with 0x04 and without."""
-    for p in TAKEN_PRIMES:
+    for p in FIRST_PRIMES:
         for _ in range(60):
             pairs = pairs_of(p, drawn_shapes(source, p))
             yield from calls(sheets_with(source, p, pairs, 6))
@@ -171,7 +171,7 @@ def alike(source: random.Random) -> Iterator[Call]:
 
 def nearly_alike(source: random.Random) -> Iterator[Call]:
     """A list of pairs, and then with one pair's degree and times exchanged, or one factor once more or once less, as far as that fits."""
-    for p in TAKEN_PRIMES:
+    for p in FIRST_PRIMES:
         for _ in range(30):
             pairs = pairs_of(p, drawn_shapes(source, p))
             e, t = source.choice(pairs)

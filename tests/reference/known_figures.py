@@ -10,9 +10,9 @@ from collections import Counter
 from typing import Iterator, NamedTuple, Optional
 
 from arithmetic import LIMIT
-from factoring import remainder
+from factoring import is_irreducible, remainder
 from known_runs import some_irreducible
-from polynomial_cases import SMALL, with_digits
+from polynomial_cases import SMALL, some_monic, with_digits
 from polynomials import degree, plus, power, product_of, times
 from sheets import Sheet, has_run
 
@@ -41,9 +41,22 @@ def pairs_of(p: int, shapes: list) -> list:
 
 
 @functools.lru_cache(maxsize=None)
+def low_bases(p: int) -> dict:
+    """Irreducible polynomials modulo p of the lowest degrees: all of them for the primes up to 7; all of degree 1 and sixteen of degree 2 from 11 on."""
+    if p in SMALL:
+        return SMALL[p]
+    source = random.Random("bases {}".format(p))
+    of_degree_2: list = []
+    while len(of_degree_2) < 16:
+        base = some_monic(source, p, 2)
+        of_degree_2 += [base] if base not in of_degree_2 and is_irreducible(p, base) else []
+    return {1: [[a, 1] for a in range(p)], 2: of_degree_2}
+
+
+@functools.lru_cache(maxsize=None)
 def bases(p: int, d: int) -> list:
-    """Irreducible polynomials modulo p of one degree, in the order of item 3: all if it is low, one if it is higher."""
-    return sorted(SMALL[p].get(d) or [list(some_irreducible(p, d))], key=lambda base: base[::-1])
+    """Irreducible polynomials modulo p of one degree, in the order of item 3: those of low degree, one if it is higher."""
+    return sorted(low_bases(p).get(d) or [list(some_irreducible(p, d))], key=lambda base: base[::-1])
 
 
 def fits(p: int, shapes: list) -> bool:
@@ -135,7 +148,7 @@ def drawn_shapes(source: random.Random, p: int) -> list:
 def shapes_with_most_pairs(source: random.Random, p: int) -> list:
     """As many pairs as there can be. Each G gives one pair for its degree d, and a second for d more if p is 2 and for 2·d more if not: cheapest first."""
     m = 2 if p == 2 else 3
-    costs = [(cost, source.random(), d, i) for d, known in SMALL[p].items() for i in range(len(known)) for cost in (d, (m - 1) * d)]
+    costs = [(cost, source.random(), d, i) for d, known in low_bases(p).items() for i in range(len(known)) for cost in (d, (m - 1) * d)]
     taken, room = Counter(), LIMIT
     for cost, _, d, i in sorted(costs):
         if cost <= room:

@@ -6,7 +6,7 @@ For cases and for the tests of typed_lines.py, which makes no tree.
 import random
 from typing import Iterator, NamedTuple, Sequence, Union
 
-from arithmetic import LIMIT, TAKEN_PRIMES
+from arithmetic import FIRST_PRIMES, LIMIT
 from byte_strings import some_bytes
 from polynomials import degree, minus, plus, power, reduced, times
 
@@ -156,17 +156,17 @@ def factors(source: random.Random, n: int) -> Node:
 # ---- lines at random, and damage
 
 
-def some_line(source: random.Random) -> bytes:
-    """A line of any kind: products of powers or trees made monic, written in few bytes or with blanks, brackets and zeros."""
-    p = source.choice(TAKEN_PRIMES)
+def some_line(source: random.Random, primes: Sequence[int] = FIRST_PRIMES) -> bytes:
+    """A line of any kind for one of the primes: products of powers or trees made monic, written in few bytes or with blanks, brackets and zeros."""
+    p = source.choice(primes)
     node = factors(source, p * p) if source.randrange(2) else some_pattern(source, p * p, source.randrange(1, 9))
     loose = source.randrange(3)
     return line_of(source, p, node, blanks=loose, zeros=2 * loose, brackets=10 * loose)
 
 
-def any_line(source: random.Random) -> bytes:
-    """A line of any tree, which has no value that is taken most often."""
-    p = source.choice(TAKEN_PRIMES)
+def any_line(source: random.Random, primes: Sequence[int] = FIRST_PRIMES) -> bytes:
+    """A line of any tree for one of the primes, which has no value that is taken most often."""
+    p = source.choice(primes)
     return line_of(source, p, some_tree(source, p * p, source.randrange(1, 12)), blanks=source.randrange(2))
 
 

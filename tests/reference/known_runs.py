@@ -9,8 +9,8 @@ from typing import Iterator, Optional
 
 from arithmetic import LIMIT
 from factoring import is_irreducible
-from polynomials import degree, divided, minus, plus, power, product_of, times, trimmed
-from run_lengths import X, power_modulo
+from polynomials import degree, divided, minus, plus, power, power_modulo, product_of, times, trimmed
+from run_lengths import X
 
 
 def multiplicative_order(p: int, e: int) -> int:

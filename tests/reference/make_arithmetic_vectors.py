@@ -11,6 +11,7 @@ from arithmetic import Answer, Record
 from arithmetic_cases import DIFFERENCE, DIVISION, KINDS, ONE, PRODUCT, SUM, X, ZERO, Case
 from kinds import made_by
 from stored import write_cases
+from wide_record_cases import ARITHMETIC_KINDS as WIDE_KINDS
 
 NAMED = {ZERO: arithmetic.zero, ONE: arithmetic.one, X: arithmetic.x}
 BINARY = {
@@ -46,7 +47,7 @@ def answer_line(answer: Answer) -> str:
 
 def main(folder: str) -> None:
     """Writes the two files."""
-    write_cases(folder, KINDS, made_by, case_bytes, lambda case: answer_line(answer_of(case)))
+    write_cases(folder, KINDS + WIDE_KINDS, made_by, case_bytes, lambda case: answer_line(answer_of(case)))
 
 
 if __name__ == "__main__":

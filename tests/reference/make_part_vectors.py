@@ -16,6 +16,7 @@ from part_cases import KINDS
 from parts import SPLIT, Part, parts_of
 from polynomials import trimmed
 from stored import write_cases
+from wide_record_cases import PART_KINDS as WIDE_KINDS
 
 
 class Found(NamedTuple):
@@ -58,7 +59,7 @@ def line_of(record: Record) -> str:
 
 def main(folder: str) -> None:
     """Writes the two files."""
-    write_cases(folder, KINDS, made_by, record_bytes, line_of)
+    write_cases(folder, KINDS + WIDE_KINDS, made_by, record_bytes, line_of)
 
 
 if __name__ == "__main__":

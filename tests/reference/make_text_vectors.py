@@ -11,6 +11,7 @@ from run_cases import TEXT_KINDS
 from splitter import program
 from stored import write_cases
 from text_cases import KINDS
+from wide_cases import TEXT_KINDS as WIDE_KINDS
 
 
 def case_bytes(case: bytes) -> bytes:
@@ -25,7 +26,7 @@ def text_of(case: bytes) -> str:
 
 def main(folder: str) -> None:
     """Writes the two files."""
-    write_cases(folder, KINDS + TEXT_KINDS, cases_of, case_bytes, text_of)
+    write_cases(folder, KINDS + TEXT_KINDS + WIDE_KINDS, cases_of, case_bytes, text_of)
 
 
 if __name__ == "__main__":

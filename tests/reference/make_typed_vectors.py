@@ -6,6 +6,7 @@ from collections import Counter
 from call_vectors import write_vectors
 from splitter import Outcome, typed
 from typed_cases import KINDS
+from wide_line_cases import LINE_KINDS as WIDE_KINDS
 
 NUMBERS: Counter = Counter()
 
@@ -20,6 +21,6 @@ def counted(line: bytes, area: bytes) -> Outcome:
 if __name__ == "__main__":
     if len(sys.argv) != 2:
         sys.exit("usage: python3 tests/reference/make_typed_vectors.py FOLDER")
-    write_vectors(sys.argv[1], KINDS, counted)
+    write_vectors(sys.argv[1], KINDS + WIDE_KINDS, counted)
     for number, count in sorted(NUMBERS.items()):
         print("{:5} with number {}".format(count, number))

@@ -7,7 +7,7 @@ import itertools
 import random
 from typing import Iterator
 
-from arithmetic import LIMIT, TAKEN_PRIMES
+from arithmetic import FIRST_PRIMES, LIMIT
 from brute_force import irreducibles, monics, monics_to
 from kinds import made_by
 from polynomials import degree, plus, power, product_of, times
@@ -51,7 +51,7 @@ def of_low_degree(source: random.Random) -> Iterator[Sheet]:
 
 def of_every_degree(source: random.Random) -> Iterator[Sheet]:
     """Random polynomials of the degrees 1 to 32."""
-    for p in TAKEN_PRIMES:
+    for p in FIRST_PRIMES:
         for top in range(1, LIMIT + 1):
             yield from (Sheet(p, some_monic(source, p * p, top)) for _ in range(8))
 
@@ -64,7 +64,7 @@ def of_full_degree(source: random.Random) -> Iterator[Sheet]:
 
 def products_of_powers(source: random.Random) -> Iterator[Sheet]:
     """Powers of lifted irreducibles of low degree, multiplied; then p times a random polynomial added to half of them."""
-    for p in TAKEN_PRIMES:
+    for p in FIRST_PRIMES:
         for _ in range(160):
             f = [1]
             for _ in range(source.randrange(1, 6)):
@@ -77,7 +77,7 @@ def products_of_powers(source: random.Random) -> Iterator[Sheet]:
 
 def of_each_verdict(source: random.Random) -> Iterator[Sheet]:
     """g^m1·(g^(m − m1) + p·w) for every m1 from 0 to m, alone and times a random polynomial."""
-    for p in TAKEN_PRIMES:
+    for p in FIRST_PRIMES:
         for m in (2, 3, 4, 5, 6, 7, 8, 14):
             for m1 in range(m + 1):
                 g = source.choice(SMALL[p][1 if m > 8 else source.randrange(1, 3)])
@@ -88,14 +88,14 @@ def of_each_verdict(source: random.Random) -> Iterator[Sheet]:
 
 def cyclic(source: random.Random) -> Iterator[Sheet]:
     """x^n − 1 and x^n + 1 for n up to 32: section 5 of document 002."""
-    for p in TAKEN_PRIMES:
+    for p in FIRST_PRIMES:
         for n in range(1, LIMIT + 1):
             yield from (Sheet(p, [constant] + [0] * (n - 1) + [1]) for constant in (1, p * p - 1))
 
 
 def equal_factors(source: random.Random) -> Iterator[Sheet]:
     """32 equal factors x + a for every a; 16 equal ones of degree 2."""
-    for p in TAKEN_PRIMES:
+    for p in FIRST_PRIMES:
         yield from (Sheet(p, power(p * p, [a, 1], LIMIT)) for a in range(p * p))
         for g in SMALL[p][2][:4]:
             yield Sheet(p, power(p * p, with_digits(source, p, g), LIMIT // 2))
@@ -103,7 +103,7 @@ def equal_factors(source: random.Random) -> Iterator[Sheet]:
 
 def different_factors(source: random.Random) -> Iterator[Sheet]:
     """32 different x + a modulo 49 and as many as there are for smaller primes; the most parts that fit in degree 32."""
-    for p in TAKEN_PRIMES:
+    for p in FIRST_PRIMES:
         for _ in range(12):
             roots = source.sample(range(p * p), min(LIMIT, p * p))
             yield Sheet(p, product_of(p * p, [[a, 1] for a in roots]))
@@ -122,7 +122,7 @@ def many_parts(source: random.Random, p: int) -> list:
 
 def p_th_powers(source: random.Random) -> Iterator[Sheet]:
     """g^p, g^(2p) and g^(p²) for random g, as far as they fit: f(x^p) modulo p, where the derivative is zero."""
-    for p in TAKEN_PRIMES:
+    for p in FIRST_PRIMES:
         for m in (m for m in (p, 2 * p, 3 * p, p * p) if m <= LIMIT):
             for _ in range(12):
                 g = some_monic(source, p * p, source.randrange(1, LIMIT // m + 1))
@@ -132,7 +132,7 @@ def p_th_powers(source: random.Random) -> Iterator[Sheet]:
 
 def eisenstein(source: random.Random) -> Iterator[Sheet]:
     """Example 3.4 of document 002: (x + a)^s + p·(..) with a unit as the last digit does not factor. The leading 1 stays."""
-    for p in TAKEN_PRIMES:
+    for p in FIRST_PRIMES:
         for s in range(2, LIMIT + 1):
             shifted = power(p * p, [source.randrange(p * p), 1], s)
             digits = [source.randrange(1, p)] + [source.randrange(p) for _ in range(s - 1)]

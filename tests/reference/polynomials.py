@@ -1,6 +1,6 @@
 """Polynomials modulo n as lists of coefficients, constant first, without zeros at the top; the empty list is zero.
 
-Sum, difference, product, power, division and the product of a list. The modulus n is a parameter: p or p².
+Sum, difference, product, power, division, the product of a list and powers modulo a polynomial. The modulus n is a parameter: p or p².
 """
 
 
@@ -70,3 +70,13 @@ def divided(n: int, f: list, g: list) -> tuple:
         for i, c in enumerate(low, shift):
             remainder[i] -= digit * c
     return trimmed(quotient[::-1]), reduced(n, remainder)
+
+
+def power_modulo(n: int, v: list, exponent: int, f: list) -> list:
+    """v to the exponent modulo the monic f of degree 1 or more, by squares."""
+    result = [1]
+    for digit in bin(exponent)[2:]:
+        result = divided(n, times(n, result, result), f)[1]
+        if digit == "1":
+            result = divided(n, times(n, result, v), f)[1]
+    return result

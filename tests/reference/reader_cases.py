@@ -5,7 +5,7 @@ import random
 from typing import Iterator
 
 from answers import FACTOR, PART, TOTALS, answer_bytes
-from arithmetic import LIMIT, TAKEN_PRIMES
+from arithmetic import FIRST_PRIMES, LIMIT
 from byte_strings import (
     TELLING,
     beginnings,
@@ -32,21 +32,21 @@ def short_answers(source: random.Random, count: int) -> list:
     """Answers to sheets of low degree, and to powers, which have other verdicts than basic."""
     answers = [answer_bytes(read_sheet(data)) for data in short_sheets(source, count // 2)]
     for i in range(count - len(answers)):
-        p = TAKEN_PRIMES[i % len(TAKEN_PRIMES)]
+        p = FIRST_PRIMES[i % len(FIRST_PRIMES)]
         f = power(p * p, some_monic(source, p * p, 1), source.randrange(2, 5))
         answers.append(answer_to(p, plus(p * p, f, [0, p * source.randrange(p)])))
     return answers
 
 
-def factor_command(factor: list, count: int) -> bytes:
+def factor_command(p: int, factor: list, count: int) -> bytes:
     """0x12 with its coefficients."""
-    return bytes([FACTOR, degree(factor), count]) + coefficient_commands(factor)
+    return bytes([FACTOR, degree(factor), count]) + coefficient_commands(p, factor)
 
 
 def list_bytes(p: int, top: int, parts: list, totals: tuple) -> bytes:
     """An answer's layout around any parts: for each of them degree, power and verdict, and its factors with their counts."""
     body = b"".join(
-        bytes([PART, d, m, verdict]) + b"".join(factor_command(factor, count) for factor, count in factors)
+        bytes([PART, d, m, verdict]) + b"".join(factor_command(p, factor, count) for factor, count in factors)
         for d, m, verdict, factors in parts
     )
     return bytes([PRIME, p, DEGREE, top]) + body + bytes([TOTALS, *totals, END])
@@ -103,7 +103,7 @@ def single_factor(source: random.Random) -> Iterator[Call]:
 
 def other_lists(source: random.Random) -> Iterator[Call]:
     """Lists that multiply to f and are not the answer's: other settings, shorter lists, more different members."""
-    for p in TAKEN_PRIMES:
+    for p in FIRST_PRIMES:
         n = p * p
         for m in range(2, 9):
             for g in ([0, 1], [1, 1], [p, 1], some_monic(source, n, 1)):
@@ -175,7 +175,7 @@ def other_coefficients(p: int, good: bytes) -> Iterator[bytes]:
 def of_another_prime(source: random.Random) -> Iterator[Call]:
     """Answers with the prime or the degree of another sheet, and the list of one answer in the frame of another."""
     for good in short_answers(source, 40):
-        yield from (Call(good[:1] + bytes([p]) + good[2:]) for p in (*TAKEN_PRIMES, 0, 4, 11))
+        yield from (Call(good[:1] + bytes([p]) + good[2:]) for p in (*FIRST_PRIMES, 0, 4, 11))
         yield from (Call(good[:3] + bytes([top]) + good[4:]) for top in (0, 1, 2, 3, 4, 32, 33, 255))
 
 
@@ -188,7 +188,7 @@ def random_strings(source: random.Random) -> Iterator[Call]:
     """Random bytes and random telling bytes, alone and after the beginning of an answer."""
     for _ in range(150):
         yield Call(some_bytes(source, source.randrange(12), range(256)))
-        head = bytes([PRIME, source.choice(TAKEN_PRIMES), DEGREE, 2])
+        head = bytes([PRIME, source.choice(FIRST_PRIMES), DEGREE, 2])
         yield Call(head + some_bytes(source, source.randrange(24), (0, 1, 2, 3, 15, 17, 18, 19)))
     yield from (Call(source.randbytes(length)) for length in (100, 255, 256, 384, 385, 512, 1000))
     yield from (Call(bytes([1, 7, 2, 32]) + bytes([FACTOR, 255, 255]) * count + bytes([END])) for count in (1, 2, 100))

@@ -5,7 +5,7 @@ import random
 from typing import Iterator
 
 from answers import RUN_LENGTH, TOTALS, answer_bytes
-from arithmetic import LIMIT, TAKEN_PRIMES
+from arithmetic import FIRST_PRIMES, LIMIT
 from byte_strings import TELLING, beginnings, with_byte_left_out, with_byte_put_in, with_bytes_exchanged, with_neighbouring_byte
 from known_runs import with_run
 from polynomial_cases import all_sheets, some_monic
@@ -39,7 +39,7 @@ def of_papers() -> list:
 @functools.lru_cache(maxsize=None)
 def of_known_runs() -> tuple:
     """Pairs of a sheet and the run that it was made for: up to the limit and above it."""
-    made = [(p, n, with_run(p, n)) for n in RUNS for p in TAKEN_PRIMES]
+    made = [(p, n, with_run(p, n)) for n in RUNS for p in FIRST_PRIMES]
     return tuple((asking(p, f), n) for p, n, f in made if f is not None)
 
 
@@ -47,7 +47,7 @@ def short_sheets(source: random.Random, count: int) -> list:
     """Sheets of low degree with 0x04, for every prime in turn."""
     sheets = []
     for i in range(count):
-        p = TAKEN_PRIMES[i % len(TAKEN_PRIMES)]
+        p = FIRST_PRIMES[i % len(FIRST_PRIMES)]
         low = [source.randrange(p * p) * source.randrange(2) for _ in range(source.randrange(3))]
         sheets.append(asking(p, [source.randrange(p) * p + source.randrange(1, p), *low, 1]))
     return sheets
@@ -55,7 +55,7 @@ def short_sheets(source: random.Random, count: int) -> list:
 
 def full_sheets_with(source: random.Random, count: int) -> list:
     """Random sheets of degree 32 with 0x04, for every prime: nearly all runs are above the limit."""
-    return allowed([Sheet(p, some_monic(source, p * p, LIMIT)) for p in TAKEN_PRIMES for _ in range(count)])
+    return allowed([Sheet(p, some_monic(source, p * p, LIMIT)) for p in FIRST_PRIMES for _ in range(count)])
 
 
 # ---- sheets
@@ -108,7 +108,7 @@ def misplaced_runs(source: random.Random) -> Iterator[Call]:
 
 def number_14(source: random.Random) -> Iterator[Call]:
     """Every constant coefficient, and none; p, 2p and so on, and none, with other faults behind 0x04, which do not count."""
-    for p in TAKEN_PRIMES:
+    for p in FIRST_PRIMES:
         yield from (Call(sheet_bytes(asking(p, (c, 1)))) for c in range(p * p))
         for c in range(0, p * p, p):
             head = sheet_bytes(Sheet(p, [c, *some_monic(source, p * p, 3)]))[:-1] + bytes([RUN])
@@ -215,11 +215,11 @@ def texts_with_runs(source: random.Random) -> Iterator[bytes]:
 
 
 def run_faults(source: random.Random) -> Iterator[bytes]:
-    """14 at its place and before others; 2, 3 and 8 behind a 0x04 that is allowed; inputs past the 102 bytes of the longest sheet."""
-    for p in TAKEN_PRIMES:
+    """14 at its place and before others; 2, 3 and 8 behind a 0x04 that is allowed; inputs past the 102 bytes of the longest sheet of narrow coefficients."""
+    for p in FIRST_PRIMES:
         head = bytes([PRIME, p, DEGREE, 2])
         for constant in (0, 1, p, p * p - p):
-            body = head + coefficient_commands([constant, 1, 1]) + bytes([RUN])
+            body = head + coefficient_commands(p, [constant, 1, 1]) + bytes([RUN])
             yield from (body + bytes(tail) for tail in ((END,), (), (RUN, END), (END, 0)))
     yield from (FULL_RUN + bytes([END] * more) for more in (0, 1, 2, 900))
     yield from (FULL_RUN[:-1] + bytes([byte] * more) for byte in (RUN, COEFFICIENT) for more in (1, 2, 900))

@@ -4,7 +4,7 @@ run_cases.py."""
 import random
 from typing import Iterator, NamedTuple
 
-from arithmetic import LIMIT, TAKEN_PRIMES
+from arithmetic import FIRST_PRIMES, LIMIT
 from byte_strings import (
     TELLING,
     beginnings,
@@ -78,7 +78,7 @@ def short_sheets(source: random.Random, count: int) -> list:
     """Sheets of low degree with few coefficients, for every prime in turn."""
     sheets = []
     for i in range(count):
-        p, top = TAKEN_PRIMES[i % len(TAKEN_PRIMES)], source.randrange(1, 6)
+        p, top = FIRST_PRIMES[i % len(FIRST_PRIMES)], source.randrange(1, 6)
         sparse = [c * source.randrange(2) for c in some_monic(source, p * p, top)[:-1]] + [1]
         sheets.append(sheet_bytes(Sheet(p, sparse)))
     return sheets
@@ -124,7 +124,7 @@ def full_sheets(source: random.Random) -> Iterator[Call]:
 
 def coefficient_faults(source: random.Random) -> Iterator[Call]:
     """At each coefficient of a full sheet: an index again, beyond the degree or lower, a value of 0, p² and p² − 1."""
-    for p in TAKEN_PRIMES:
+    for p in FIRST_PRIMES:
         full = sheet_bytes(Sheet(p, [p * p - 1] * LIMIT + [1]))
         for place in range(4, 4 + 3 * LIMIT, 12):
             indices = [(1, value) for value in (0, LIMIT, LIMIT + 1, 255)]
@@ -162,7 +162,7 @@ def random_strings(source: random.Random) -> Iterator[Call]:
     for _ in range(600):
         yield Call(some_bytes(source, source.randrange(12), range(256)))
         yield Call(some_bytes(source, source.randrange(12), (1, 2, 3, 4, 15)))
-        head = bytes([1, source.choice(TAKEN_PRIMES), 2, source.randrange(1, LIMIT + 1)])
+        head = bytes([1, source.choice(FIRST_PRIMES), 2, source.randrange(1, LIMIT + 1)])
         yield Call(head + some_bytes(source, source.randrange(16), (0, 1, 2, 3, 3, 3, 4, 15)))
     yield from (Call(source.randbytes(length)) for length in (100, 255, 256, 257, 512, 1000))
     yield from (Call(bytes([byte])) for byte in range(256))

@@ -1,10 +1,12 @@
-"""Sheets of documents 01 and 02: reading with the numbers 2 to 8 and 14 and their places, and writing."""
+"""Sheets of documents 01 and 02, with coefficients of one byte and of two: reading with the numbers 2 to 8 and 14 and their places, and writing."""
 
 from typing import NamedTuple
 
 from arithmetic import LIMIT, TAKEN_PRIMES
 
-PRIME, DEGREE, COEFFICIENT, RUN, END = 0x01, 0x02, 0x03, 0x04, 0x0F
+PRIME, DEGREE, COEFFICIENT, RUN, WIDE_COEFFICIENT, END = 0x01, 0x02, 0x03, 0x04, 0x05, 0x0F
+# "Command 0x05, with an index byte and a value of two bytes, low byte first, replaces 0x03 for primes from 17 up"
+FIRST_WIDE_PRIME = 17
 
 
 class Sheet(NamedTuple):
@@ -38,12 +40,25 @@ def command(data: bytes, place: int, *allowed: int) -> int:
     return byte
 
 
-def operand(data: bytes, place: int, number: int, allowed) -> int:
-    """An operand that is refused with the number, at its own place, unless it is allowed."""
-    byte = byte_at(data, place)
-    if byte not in allowed:
+def operand(data: bytes, place: int, number: int, allowed, width: int = 1) -> int:
+    """An operand that is refused with the number, at its own place, unless it is allowed.
+
+    "A two-byte operand is judged once both bytes are there, at the place of its first."
+    """
+    value = sum(byte_at(data, place + i) << 8 * i for i in range(width))
+    if value not in allowed:
         raise Refusal(number, place)
-    return byte
+    return value
+
+
+def is_wide(prime: int) -> bool:
+    """Coefficients take two bytes."""
+    return prime >= FIRST_WIDE_PRIME
+
+
+def coefficient_command(prime: int) -> int:
+    """0x03 or 0x05; "the wrong one of the two is refused as 3" """
+    return WIDE_COEFFICIENT if is_wide(prime) else COEFFICIENT
 
 
 def has_run(prime: int, polynomial: list) -> bool:
@@ -52,17 +67,18 @@ def has_run(prime: int, polynomial: list) -> bool:
 
 
 def read_sheet(data: bytes) -> Sheet:
-    """ "A sheet is 0x01, 0x02, any number of 0x03, 0x0F", and "may carry command 0x04, without operand, just before 0x0F". """
+    """ "A sheet is 0x01, 0x02, any number of 0x03", or of 0x05, "0x0F", and "may carry command 0x04, without operand, just before 0x0F". """
     command(data, 0, PRIME)
     prime = operand(data, 1, 4, TAKEN_PRIMES)
     command(data, 2, DEGREE)
     top = operand(data, 3, 5, range(1, LIMIT + 1))
     polynomial = [0] * top + [1]
     place, least = 4, 0
-    while (code := command(data, place, COEFFICIENT, RUN, END)) == COEFFICIENT:
+    coefficient, width = coefficient_command(prime), 2 if is_wide(prime) else 1
+    while (code := command(data, place, coefficient, RUN, END)) == coefficient:
         index = operand(data, place + 1, 6, range(least, top))
-        polynomial[index] = operand(data, place + 2, 7, range(1, prime * prime))
-        place, least = place + 3, index + 1
+        polynomial[index] = operand(data, place + 2, 7, range(1, prime * prime), width)
+        place, least = place + 2 + width, index + 1
     if code == RUN:
         if not has_run(prime, polynomial):
             raise Refusal(14, place)
@@ -73,12 +89,14 @@ def read_sheet(data: bytes) -> Sheet:
     return Sheet(prime, polynomial, code == RUN)
 
 
-def coefficient_commands(polynomial: list) -> bytes:
-    """ "0x03 commands for every coefficient other than 0 below the top, index rising" """
-    return b"".join(bytes([COEFFICIENT, i, c]) for i, c in enumerate(polynomial[:-1]) if c != 0)
+def coefficient_commands(prime: int, polynomial: list) -> bytes:
+    """ "0x03 commands for every coefficient other than 0 below the top, index rising", or 0x05 commands"""
+    width = 2 if is_wide(prime) else 1
+    head = coefficient_command(prime)
+    return b"".join(bytes([head, i]) + c.to_bytes(width, "little") for i, c in enumerate(polynomial[:-1]) if c != 0)
 
 
 def sheet_bytes(sheet: Sheet) -> bytes:
     """The one sheet of a polynomial, with or without 0x04."""
     head = bytes([PRIME, sheet.prime, DEGREE, len(sheet.polynomial) - 1])
-    return head + coefficient_commands(sheet.polynomial) + bytes([RUN, END] if sheet.run else [END])
+    return head + coefficient_commands(sheet.prime, sheet.polynomial) + bytes([RUN, END] if sheet.run else [END])

@@ -4,7 +4,7 @@ import itertools
 import random
 import unittest
 
-from arithmetic import LIMIT, REFUSED, TAKEN_PRIMES, WIDTH, Answer, Record
+from arithmetic import FIRST_PRIMES, LIMIT, REFUSED, TAKEN_PRIMES, WIDTH, Answer, Record
 from arithmetic import add, degree, divide, is_monic, modulus, multiply, one, subtract, x, zero
 from arithmetic_cases import DEGREES, DIVISION, KINDS, SUM, Case
 from kinds import made_by
@@ -61,7 +61,7 @@ class Laws(unittest.TestCase):
 
     def pairs(self, room=2 * LIMIT):
         """Random pairs of every two degrees that add to at most `room`, for every prime."""
-        for prime, top_a, top_b in itertools.product(TAKEN_PRIMES, DEGREES, DEGREES):
+        for prime, top_a, top_b in itertools.product(FIRST_PRIMES, DEGREES, DEGREES):
             if (top_a or 0) + (top_b or 0) <= room:
                 yield some(self.source, prime, top_a), some(self.source, prime, top_b)
 
@@ -85,7 +85,7 @@ class Laws(unittest.TestCase):
 
     def test_division(self):
         """a = q·b + r, r zero or of lower degree; the divisor 1 leaves zero."""
-        for prime, top_a, top_b in itertools.product(TAKEN_PRIMES, DEGREES, range(WIDTH)):
+        for prime, top_a, top_b in itertools.product(FIRST_PRIMES, DEGREES, range(WIDTH)):
             a, b = some(self.source, prime, top_a), some_monic(self.source, prime, top_b)
             number, place, (quotient, remainder) = divide(a, b)
             self.assertEqual((number, place), (0, 0))
@@ -116,7 +116,7 @@ class Refusals(unittest.TestCase):
     def test_ten_before_all(self):
         """An improper record is 10 even where the primes differ, the degrees are too high or the divisor is zero."""
         for call in self.binary:
-            for p in TAKEN_PRIMES:
+            for p in FIRST_PRIMES:
                 for good in (polynomial(p), maximal(p, LIMIT), polynomial(5 if p == 2 else 2)):
                     for bad in (Record(4, good.coefficients), monomial(p, p * p, 0), monomial(p, 65535, LIMIT)):
                         self.assertRefused(call, good, bad, 10)
@@ -125,13 +125,13 @@ class Refusals(unittest.TestCase):
 
     def test_eleven_before_the_rest(self):
         for call in self.binary:
-            for p, q in itertools.permutations(TAKEN_PRIMES, 2):
+            for p, q in itertools.permutations(FIRST_PRIMES, 2):
                 self.assertRefused(call, maximal(p, LIMIT), maximal(q, LIMIT), 11)
                 self.assertRefused(call, maximal(p, LIMIT), polynomial(q), 11)
 
     def test_twelve(self):
         """By the degrees of the factors, also where the product would vanish; never with a zero factor."""
-        for p in TAKEN_PRIMES:
+        for p in FIRST_PRIMES:
             self.assertRefused(multiply, monomial(p, p, 1), monomial(p, p, LIMIT), 12)
             self.assertRefused(multiply, maximal(p, LIMIT), maximal(p, LIMIT), 12)
             self.assertEqual(record(multiply(monomial(p, p, 0), monomial(p, p, LIMIT))), polynomial(p))
@@ -140,14 +140,14 @@ class Refusals(unittest.TestCase):
 
     def test_thirteen(self):
         """Zero, every leading unit other than 1 and every leading multiple of p."""
-        for p in TAKEN_PRIMES:
+        for p in FIRST_PRIMES:
             self.assertRefused(divide, maximal(p, LIMIT), polynomial(p), 13)
             for leading in range(2, p * p):
                 for top in (0, 1, LIMIT):
                     self.assertRefused(divide, maximal(p, 1), monomial(p, leading, top), 13)
 
     def test_last_good_values(self):
-        for p in TAKEN_PRIMES:
+        for p in FIRST_PRIMES:
             self.assertEqual(add(maximal(p, LIMIT), polynomial(p)).number, 0)
             self.assertEqual(multiply(maximal(p, 1), maximal(p, LIMIT - 1)).number, 0)
             self.assertEqual(divide(maximal(p, LIMIT), monomial(p, 1, LIMIT)).number, 0)
@@ -195,7 +195,7 @@ class StoredCases(unittest.TestCase):
 
     def test_random_records_are_as_asked(self):
         source = random.Random(0)
-        for prime, top in itertools.product(TAKEN_PRIMES, DEGREES):
+        for prime, top in itertools.product(FIRST_PRIMES, DEGREES):
             self.assertEqual(degree(some(source, prime, top).coefficients), top)
             if top is not None:
                 self.assertTrue(is_monic(some_monic(source, prime, top).coefficients))

@@ -8,7 +8,7 @@ import run_cases
 import sheet_cases
 import text_cases
 from answers import answer_bytes, list_read_off, sheet_of_answer
-from arithmetic import LIMIT, TAKEN_PRIMES
+from arithmetic import FIRST_PRIMES, LIMIT
 from call_vectors import case_bytes, cases_of, outcome_line
 from make_part_vectors import found, line_of
 from parts import BASIC, POWER, SOLID, SPLIT, parts_of
@@ -22,11 +22,11 @@ from splitter import AREA, program, split
 class Polynomials(unittest.TestCase):
     def test_all_are_taken(self):
         for p, f, _ in all_sheets():
-            self.assertTrue(p in TAKEN_PRIMES and 1 <= degree(f) <= LIMIT and f[-1] == 1 and 0 <= min(f) <= max(f) < p * p)
+            self.assertTrue(p in FIRST_PRIMES and 1 <= degree(f) <= LIMIT and f[-1] == 1 and 0 <= min(f) <= max(f) < p * p)
 
     def test_every_verdict_for_every_prime(self):
         seen = {(p, part.verdict) for p, f, _ in all_sheets() for part in parts_of(p, f)}
-        self.assertEqual(seen, {(p, verdict) for p in TAKEN_PRIMES for verdict in (BASIC, SOLID, POWER, SPLIT)})
+        self.assertEqual(seen, {(p, verdict) for p in FIRST_PRIMES for verdict in (BASIC, SOLID, POWER, SPLIT)})
 
     def test_lines_of_parts(self):
         self.assertEqual(line_of(polynomial(3, 4, 0, 6, 1)), "0 0 | 1 3 4 2 : 1 1 ; 2 : 1 1 ; 1 : 4 1")
@@ -61,7 +61,7 @@ class Runs(unittest.TestCase):
         made = {n for _, n in run_cases.of_known_runs()}
         self.assertTrue({1, 2, 4, 42, 256, 1023, 1025, 65534, 65535, 65537} <= made)
         self.assertNotIn(65536, made)
-        self.assertEqual({sheet.prime for sheet, n in run_cases.of_known_runs() if n > 65535}, set(TAKEN_PRIMES))
+        self.assertEqual({sheet.prime for sheet, n in run_cases.of_known_runs() if n > 65535}, set(FIRST_PRIMES))
         for sheet, n in run_cases.of_known_runs():
             self.assertEqual(answer_bytes(sheet)[-3:-1], (n if n <= 65535 else 0).to_bytes(2, "little"))
 
@@ -73,7 +73,7 @@ class Runs(unittest.TestCase):
         self.assertTrue(any(sheet_of_answer(call.data) is None for call in cases_of(run_cases.other_runs)))
 
     def test_sheets_with_a_run(self):
-        """0x04 at a wrong place meets 3, 8 and 14; the longest sheet has 102 bytes."""
+        """0x04 at a wrong place meets 3, 8 and 14; the longest sheet of one byte to a coefficient has 102 bytes."""
         self.assertTrue({3, 8, 14} <= {split(call.data, bytes(AREA)).number for call in cases_of(run_cases.misplaced_runs)})
         self.assertEqual((len(run_cases.FULL_RUN), split(run_cases.FULL_RUN, bytes(AREA)).number), (102, 0))
 
@@ -82,7 +82,7 @@ class ReaderCalls(unittest.TestCase):
     def test_lists_that_are_not_the_answer(self):
         """Among the other lists there are many that multiply to the polynomial of an answer and are refused, and some answers."""
         kept = refused = 0
-        for p in TAKEN_PRIMES:
+        for p in FIRST_PRIMES:
             for m in range(2, 9):
                 for data in reader_cases.other_power_lists(p, [1, 1], m):
                     self.assertEqual(product_of(p * p, list_read_off(data)), product_of(p * p, [[1, 1]] * m))

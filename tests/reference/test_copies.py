@@ -6,7 +6,7 @@ from collections import defaultdict
 
 import copy_cases
 from answers import FACTOR, answer_bytes, commands
-from arithmetic import LIMIT, TAKEN_PRIMES
+from arithmetic import FIRST_PRIMES, LIMIT
 from call_vectors import cases_of
 from copies import Figures, copy_bytes, figures_of
 from known_figures import drawn_shapes, lists_of_pairs, pairs_of, polynomial_with, shapes_with_most_pairs, sheets_with
@@ -118,7 +118,7 @@ class KnownFigures(unittest.TestCase):
     def test_shapes(self):
         """Polynomials have the pairs that their parts were chosen for, in the order of the shapes."""
         source = random.Random("shapes")
-        for p in TAKEN_PRIMES:
+        for p in FIRST_PRIMES:
             for _ in range(150):
                 shapes = drawn_shapes(source, p)
                 f = polynomial_with(source, p, shapes)
@@ -128,7 +128,7 @@ class KnownFigures(unittest.TestCase):
         """Sheets made for the same pairs, with other parts and other verdicts, have them, and so the same copy."""
         source = random.Random("alike")
         others = 0
-        for p in TAKEN_PRIMES:
+        for p in FIRST_PRIMES:
             for _ in range(60):
                 pairs = pairs_of(p, drawn_shapes(source, p))
                 sheets = sheets_with(source, p, pairs, 4)
@@ -199,10 +199,10 @@ class Stored(unittest.TestCase):
     def test_kinds_of_answers(self):
         """For every prime every degree, 0x04 and none, every verdict, the most pairs, and pairs that stand in every kind of order."""
         sheets = [sheet for sheet, _ in self.accepted.values()]
-        self.assertEqual({(sheet.prime, degree(sheet.polynomial)) for sheet in sheets}, {(p, n) for p in TAKEN_PRIMES for n in range(1, LIMIT + 1)})
-        self.assertEqual({(sheet.prime, sheet.run) for sheet in sheets}, {(p, run) for p in TAKEN_PRIMES for run in (False, True)})
+        self.assertEqual({(sheet.prime, degree(sheet.polynomial)) for sheet in sheets}, {(p, n) for p in FIRST_PRIMES for n in range(1, LIMIT + 1)})
+        self.assertEqual({(sheet.prime, sheet.run) for sheet in sheets}, {(p, run) for p in FIRST_PRIMES for run in (False, True)})
         verdicts = {(sheet.prime, part.verdict) for sheet, parts in self.accepted.values() for part in parts}
-        self.assertEqual(verdicts, {(p, verdict) for p in TAKEN_PRIMES for verdict in (BASIC, SOLID, POWER, SPLIT)})
+        self.assertEqual(verdicts, {(p, verdict) for p in FIRST_PRIMES for verdict in (BASIC, SOLID, POWER, SPLIT)})
         for p, most in MOST_PAIRS.items():
             rows = [self.pairs(data) for data in self.accepted if data[1] == p]
             self.assertEqual(max(map(len, rows)), most)
@@ -211,7 +211,7 @@ class Stored(unittest.TestCase):
 
     def test_wrong_copies(self):
         """Each wrong copy differs from the right one for many of the accepted sheets of every prime."""
-        for p in TAKEN_PRIMES:
+        for p in FIRST_PRIMES:
             rows = [self.pairs(data) for data in self.accepted if data[1] == p]
             for wrong in WRONG:
                 self.assertGreater(sum(wrong(pairs) != sorted(pairs) for pairs in rows), 150)

@@ -1,6 +1,7 @@
 """Term 3 and the free digits against all factor lists: every monic polynomial of small degree, every list set against it."""
 
 import math
+import random
 import unittest
 from collections import Counter
 
@@ -34,6 +35,16 @@ class LongestLists(unittest.TestCase):
             self.assertEqual(len(everything), sum((p * p) ** d for d in range(1, top + 1)))
             for f, lists in everything.items():
                 self.check(p, list(f), lists, everything)
+
+    def test_of_later_primes(self):
+        """The same of some polynomials of degree 2 modulo 121, 169 and 289: all that have several lists beside themselves, and 300 others."""
+        source = random.Random("later primes")
+        for p in (11, 13, 17):
+            everything = lists_by_product(p * p, 2)
+            several = [f for f, lists in everything.items() if len(lists) > 2]
+            self.assertEqual(len(several), p * p)
+            for f in several + source.sample(list(everything), 300):
+                self.check(p, list(f), everything[f], everything)
 
     def check(self, p, f, lists, everything):
         """The list in the answer's bytes, against all lists with the same product."""

@@ -3,12 +3,12 @@
 import random
 import unittest
 
-from arithmetic import LIMIT, TAKEN_PRIMES
+from arithmetic import FIRST_PRIMES, LIMIT
 from brute_force import monics_to, walked_run
 from known_runs import base_of_order, divided_by, multiplicative_order, prime_powers, root_of_unity_lift, with_run
 from polynomial_cases import all_sheets, some_monic
-from polynomials import degree, power, reduced
-from run_lengths import RUN_LIMIT, X, order_modulo_base, power_modulo, run_length
+from polynomials import degree, power, power_modulo, reduced
+from run_lengths import RUN_LIMIT, X, order_modulo_base, run_length
 from sheets import has_run
 
 
@@ -21,7 +21,7 @@ class Examples(unittest.TestCase):
 
     def test_cyclic(self):
         """x^n − 1 has the run n; x^n + 1 has twice that."""
-        for p in TAKEN_PRIMES:
+        for p in FIRST_PRIMES:
             for n in range(1, LIMIT + 1):
                 for constant, run in ((p * p - 1, n), (1, 2 * n)):
                     self.assertEqual(run_length(p, [constant] + [0] * (n - 1) + [1]), run)
@@ -41,7 +41,7 @@ class Walks(unittest.TestCase):
     def test_large(self):
         """Of degree up to 32; where the run is above the limit the walk takes all its pulses."""
         source = random.Random("walks")
-        for p in TAKEN_PRIMES:
+        for p in FIRST_PRIMES:
             taken = [sheet.polynomial for sheet in all_sheets() if sheet.prime == p and has_run(p, sheet.polynomial)]
             runs = [(f, run_length(p, f)) for f in source.sample(taken, 60)]
             within = [pair for pair in runs if pair[1]]
@@ -53,7 +53,7 @@ class Walks(unittest.TestCase):
     def test_least(self):
         """x^n is 1, and x^(n/q) is not, for the primes q that divide n: then n is the order of x."""
         source = random.Random("least")
-        for p in TAKEN_PRIMES:
+        for p in FIRST_PRIMES:
             for f in [some_monic(source, p * p, source.randrange(1, 9)) for _ in range(60)]:
                 run = run_length(p, f) if has_run(p, f) else 0
                 if run:
@@ -75,7 +75,7 @@ class KnownRuns(unittest.TestCase):
         """Small numbers, those about the squares of small and great steps, and those about the limit: 65,534, 65,535, 65,537 modulo 4."""
         made = {}
         for n in (*range(1, 61), *range(1020, 1030), *range(65500, 65561)):
-            for p in TAKEN_PRIMES:
+            for p in FIRST_PRIMES:
                 f = with_run(p, n)
                 if f is not None:
                     made.setdefault(n, []).append(p)
@@ -86,7 +86,7 @@ class KnownRuns(unittest.TestCase):
     def test_none_of_65536(self):
         """Its two-part is too high for every prime: 2 modulo 4 gives at most 64, and 2^16 divides no p^d − 1 with d up to 32."""
         self.assertTrue(all(divided_by(2, p**d - 1)[0] < 16 for p in (3, 5, 7) for d in range(1, LIMIT + 1)))
-        self.assertTrue(all(with_run(p, 65536) is None for p in TAKEN_PRIMES))
+        self.assertTrue(all(with_run(p, 65536) is None for p in FIRST_PRIMES))
 
 
 if __name__ == "__main__":

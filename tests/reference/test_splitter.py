@@ -145,7 +145,7 @@ class SheetReader(unittest.TestCase):
                     self.assertEqual(fault(data), (14, len(data) - 2))
 
     def test_every_beginning_ends_too_soon(self):
-        """The longest sheet has 101 bytes without 0x04 and 102 with it."""
+        """The longest sheet of one byte to a coefficient has 101 bytes without 0x04 and 102 with it."""
         for run, longest in ((False, 101), (True, 102)):
             full = sheet_bytes(Sheet(7, [48] * 32 + [1], run))
             self.assertEqual(len(full), longest)

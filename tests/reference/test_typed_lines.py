@@ -6,7 +6,7 @@ import unittest
 from collections import Counter, defaultdict
 
 import typed_cases
-from arithmetic import LIMIT, TAKEN_PRIMES
+from arithmetic import FIRST_PRIMES, LIMIT
 from call_vectors import cases_of
 from known_lines import Tree, damaged_line, factors, line_of, made_monic, parts, some_pattern, some_tree, too_high, value
 from line_spans import given_by, readings
@@ -122,7 +122,7 @@ class Values(unittest.TestCase):
         source = random.Random("known trees")
         numbers = Counter()
         for i in range(3000):
-            p = source.choice(TAKEN_PRIMES)
+            p = source.choice(FIRST_PRIMES)
             node = (factors, lambda s, n: some_tree(s, n, s.randrange(12)), lambda s, n: some_pattern(s, n, s.randrange(12)))[i % 3](source, p * p)
             f = None if too_high(p * p, node) else value(p * p, node)
             due = Sheet(p, f) if f and len(f) > 1 and f[-1] == 1 else None
@@ -138,7 +138,7 @@ class Values(unittest.TestCase):
         """The value of a line at a number is that of its signs, worked out by Python at that number."""
         source = random.Random("at points")
         for _ in range(400):
-            p = source.choice(TAKEN_PRIMES)
+            p = source.choice(FIRST_PRIMES)
             line = line_of(source, p, some_pattern(source, p * p, source.randrange(8)), blanks=1, brackets=20)
             try:
                 f = sheet_of_line(line).polynomial
@@ -211,7 +211,8 @@ class Stored(unittest.TestCase):
         """Sheets of every prime and degree; all are taken by the sheet reader, and none asks for a run."""
         written = {outcome.area[: outcome.count] for outcome in self.outcomes if outcome.number == 0}
         sheets = [read_sheet(data) for data in written]
-        self.assertEqual({(sheet.prime, len(sheet.polynomial) - 1) for sheet in sheets}, {(p, n) for p in TAKEN_PRIMES for n in range(1, LIMIT + 1)})
+        kinds = {(sheet.prime, len(sheet.polynomial) - 1) for sheet in sheets if sheet.prime in FIRST_PRIMES}
+        self.assertEqual(kinds, {(p, n) for p in FIRST_PRIMES for n in range(1, LIMIT + 1)})
         self.assertFalse(any(sheet.run for sheet in sheets))
         self.assertGreater(len(written), 2500)
 

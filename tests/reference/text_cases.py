@@ -3,7 +3,7 @@
 import random
 from typing import Iterator
 
-from arithmetic import LIMIT, TAKEN_PRIMES
+from arithmetic import FIRST_PRIMES, LIMIT
 from polynomial_cases import all_sheets, some_monic
 from polynomials import power, product_of
 from sheet_cases import FULL, papers
@@ -44,7 +44,7 @@ def faults(source: random.Random) -> Iterator[bytes]:
 def of_full_degree(source: random.Random) -> Iterator[bytes]:
     """Degree 32, with few factors and with many, for every prime; more of them modulo 49."""
     yield FULL
-    for p in (*TAKEN_PRIMES, *[7] * 8):
+    for p in (*FIRST_PRIMES, *[7] * 8):
         roots = [source.randrange(p * p) for _ in range(LIMIT)]
         yield sheet_bytes(Sheet(p, some_monic(source, p * p, LIMIT)))
         yield sheet_bytes(Sheet(p, product_of(p * p, [[a, 1] for a in roots])))
@@ -52,7 +52,7 @@ def of_full_degree(source: random.Random) -> Iterator[bytes]:
 
 
 def too_long(source: random.Random) -> Iterator[bytes]:
-    """Inputs past the 101 bytes of the longest sheet without 0x04."""
+    """Inputs past the 101 bytes of the longest sheet of one byte to a coefficient without 0x04."""
     yield from (FULL + bytes([15] * more) for more in (1, 2, 100, 900))
     yield from (FULL[:-1] + b"\x03" + more for more in (b"\x1f", b"\x1f\x01", bytes(900)))
     yield from (bytes(length) for length in (102, 103, 1000))

@@ -5,7 +5,7 @@ import itertools
 import random
 from typing import Iterator
 
-from arithmetic import TAKEN_PRIMES
+from arithmetic import FIRST_PRIMES
 from byte_strings import beginnings, with_byte_changed, with_byte_left_out, with_byte_put_in, with_bytes_exchanged
 from known_lines import NO_SIGNS, SIGNS, damaged_line, factors, line_of, some_line, some_signs
 from sheet_cases import Call, in_all_areas
@@ -130,7 +130,7 @@ def blanks(source: random.Random) -> Iterator[Call]:
         for white in (b" ", b"  ", b"\t", b"\n", b"\r\n", b"\xc2\xa0", b"\x0b", b" \t "):
             yield from (Call(good[:place] + white + good[place:]) for place in range(len(good) + 1))
     for _ in range(100):
-        spaced = line_of(source, source.choice(TAKEN_PRIMES), factors(source, 25), blanks=source.randrange(1, 5))
+        spaced = line_of(source, source.choice(FIRST_PRIMES), factors(source, 25), blanks=source.randrange(1, 5))
         yield from (Call(spaced), Call(spaced.replace(b" ", b"")), Call(b" " + spaced), Call(spaced + b" "), Call(spaced.replace(b" ", b"\t", 1)))
     yield from (Call(b" " * count) for count in (1, 2, 255, 256))
 

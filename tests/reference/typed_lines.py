@@ -128,7 +128,7 @@ def is_large(step: Step) -> bool:
 
 # ---- values
 
-# Bits for a coefficient: those of a sum, a product or a power that is allowed, worked out over the whole numbers, have fewer than 400.
+# Bits for a coefficient: those of a sum, a product or a power that is allowed, worked out over the whole numbers, have fewer than 550.
 WIDTH = 1024
 X = 1 << WIDTH
 ONES = sum(1 << WIDTH * i for i in range(LIMIT + 1))

@@ -4,7 +4,7 @@ import itertools
 import random
 from typing import Iterable, Iterator, List
 
-from arithmetic import LIMIT, TAKEN_PRIMES
+from arithmetic import FIRST_PRIMES, LIMIT
 from known_lines import Tree, factors, line_of, some_pattern, some_tree
 from sheet_cases import Call
 
@@ -58,11 +58,11 @@ def products_of_powers(source: random.Random) -> Iterator[Call]:
     for i in range(LIMIT + 1):
         for j in (31 - i, 32 - i, 33 - i, 34 - i):
             if 0 <= j <= LIMIT:
-                p = source.choice(TAKEN_PRIMES)
+                p = source.choice(FIRST_PRIMES)
                 yield from lines((f"{p}:x^{i}*x^{j}", f"{p}:{p}*x^{i}*({p}*x^{j})+x", f"{p}:{p}*x^{i}*{p}*x^{j}+x", f"{p}:0*(x^{i}*x^{j})+x^2"))
     for i, j in itertools.product(range(LIMIT + 1), repeat=2):
         if i * j in range(28, 37) or i in (0, 1) or j < 2 or (i, j) == (LIMIT, LIMIT):
-            p = source.choice(TAKEN_PRIMES)
+            p = source.choice(FIRST_PRIMES)
             yield from lines((f"{p}:(x^{i})^{j}", f"{p}:({p}*x^{i})^{j}+x", f"{p}:({p * p}*x^{i})^{j}+x^3"))
 
 
@@ -79,7 +79,7 @@ def factor_texts(source: random.Random, p: int) -> List[str]:
 def degrees(source: random.Random) -> Iterator[Call]:
     """Products and powers of factors whose degrees drop, whose products vanish, or that are zero, a pattern added or not."""
     for _ in range(450):
-        p = source.choice(TAKEN_PRIMES)
+        p = source.choice(FIRST_PRIMES)
         product = "*".join(source.sample(factor_texts(source, p), source.randrange(1, 4)))
         top, e = source.randrange(1, 33), source.randrange(1, 6)
         yield from lines((f"{p}:{product}", f"{p}:x^{top}+{product}", f"{p}:x+0*({product})^{e}", f"{p}:({product})^2+x^32"))
@@ -87,7 +87,7 @@ def degrees(source: random.Random) -> Iterator[Call]:
 
 def not_monic(source: random.Random) -> Iterator[Call]:
     """Values with every leading coefficient, of degrees 0, 1, 2 and 32; values that turn monic only modulo p², or are 0 only then."""
-    for p in TAKEN_PRIMES:
+    for p in FIRST_PRIMES:
         for c in range(p * p + 2):
             yield from lines((f"{p}:{c}*x", f"{p}:{c}", f"{p}:{c}*x^32+x", f"{p}:x*{c}+{c}", f"{p}:x+{c}*x^2", f"{p}:0-{c}*x", f"{p}:{c}*x-{c}*x"))
         n = p * p
@@ -96,7 +96,7 @@ def not_monic(source: random.Random) -> Iterator[Call]:
 
 def zeroth_powers(source: random.Random) -> Iterator[Call]:
     """ "The zeroth power is 1": of 0, of what is 0 modulo p², of numbers, of x and of the highest polynomials."""
-    for p in TAKEN_PRIMES:
+    for p in FIRST_PRIMES:
         for base in ("0", str(p * p), "(x-x)", str(p), "1", "x", "(x^32)", "(x^16*x^16)", f"({p}*x^20)", "(0^0)", "(0^1)", "65535"):
             for e in ("0", "00", "1", "2", "32"):
                 yield from lines((f"{p}:x*{base}^{e}", f"{p}:x^2+{base}^{e}", f"{p}:x^2*x+{base} ^ {e}*x"))
@@ -107,7 +107,7 @@ def zeroth_powers(source: random.Random) -> Iterator[Call]:
 
 def lines_of_factors(source: random.Random) -> Iterator[Call]:
     """Products of powers, as patterns are spoken."""
-    for p in TAKEN_PRIMES:
+    for p in FIRST_PRIMES:
         for _ in range(300):
             loose = source.choice((0, 0, 1, 3))
             yield Call(line_of(source, p, factors(source, p * p), blanks=loose, zeros=loose, brackets=5 * loose))
@@ -115,7 +115,7 @@ def lines_of_factors(source: random.Random) -> Iterator[Call]:
 
 def lines_of_trees(source: random.Random) -> Iterator[Call]:
     """Trees with a value that is taken most often, and any trees."""
-    for p in TAKEN_PRIMES:
+    for p in FIRST_PRIMES:
         for size in range(20):
             for _ in range(14):
                 loose = source.choice((0, 0, 1, 3))
@@ -125,7 +125,7 @@ def lines_of_trees(source: random.Random) -> Iterator[Call]:
 
 def sums_of_terms(source: random.Random) -> Iterator[Call]:
     """Sums of c·x^i in any order, of every degree, some with several terms of one degree, some that cancel."""
-    for p, top in itertools.product(TAKEN_PRIMES, range(1, LIMIT + 1)):
+    for p, top in itertools.product(FIRST_PRIMES, range(1, LIMIT + 1)):
         for count in (2, 8):
             node = Tree("^", "x", top)
             for _ in range(count):
@@ -136,7 +136,7 @@ def sums_of_terms(source: random.Random) -> Iterator[Call]:
 
 def full_lines(source: random.Random) -> Iterator[Call]:
     """Lines of 200 bytes and more whose value has degree 32 and many coefficients."""
-    for p in TAKEN_PRIMES:
+    for p in FIRST_PRIMES:
         for _ in range(15):
             roots = [source.randrange(p * p) for _ in range(LIMIT)]
             yield from lines((f"{p}:" + "*".join(f"(x+{a})" for a in roots), f"{p}:" + "*".join(f"(x+{a})^{k}" for a, k in zip(roots, (16, 8, 4, 2, 1, 1)))))

@@ -1,15 +1,17 @@
 -- Fields, and that ℤ/p is one for a prime p: the inverse of a is −(p / a) times that of p % a.
--- Proves it of every prime that document 01 takes, by one computed test over the list of primes. Assumes nothing.
+-- Proves it of every prime that is taken, by one computed test over the list of primes, and that every prime below 256 is taken, by one over those
+-- numbers. Assumes nothing.
 use mathlib.Core.Path.{_≡_, sym, _∙_, ap, subst}
-use mathlib.Core.Bool.{Bool, not, _&&_}
+use mathlib.Core.Bool.{Bool, not, _&&_, _||_}
 use mathlib.Core.Logic.{_⊎_, inl, inr, _≢_}
-use Prim.Native.Nat.{ℕ, zero, suc, _+_, _*_, _-_, _<_, _≤_, _%_, _/_}
+use Prim.Native.Nat.{ℕ, zero, suc, _+_, _*_, _-_, _<_, _≤_, _%_, _/_, zero-le}
 use native.Mathlib.Nat.{mod-lt, div-add-mod, pos-of-ne-zero, eq-or-lt-of-le, mod-eq-of-lt}
 use native.Mathlib.Decide.{ℕ-discrete}
 use native.Mathlib.Omega.{arith}
-use lib.Dec.{T, eqb, leb, leb→le}
+use lib.Dec.{T, eqb, leb, leb→le, le→leb}
+use borrow.Author.Tests.{ne-eqb}
 use Rattle.specification.specs.Limits.{primes, taken}
-use Rattle.specification.specs.Lists.{allPass, upFrom}
+use Rattle.specification.specs.Lists.{allPass, anyPasses, upFrom}
 use Rattle.algebra.specs.Ring.{CommRing, zero-mul, neg-zero, add-zero as add-𝟘}
 use Rattle.algebra.specs.Identities.{_⊕_, _⊖_, _⊗_, ⊝_, _≈_, solve}
 use Rattle.algebra.specs.Divisibility.{unit-cancel}
@@ -27,9 +29,9 @@ use Rattle.algebra.specs.Residues.{
   value-below,
   zero-remainder,
 }
-use Rattle.lists.specs.Tests.{left, right}
-use Rattle.lists.specs.AllAny.{all-member, member-passes}
-use Rattle.lists.specs.NumbersFrom.{upFrom-has}
+use Rattle.lists.specs.Tests.{passes, both, left, right, either}
+use Rattle.lists.specs.AllAny.{all-member, all-passes, member-passes}
+use Rattle.lists.specs.NumbersFrom.{upFrom-member, upFrom-has}
 
 -- equality is decided, and what is not 𝟘 has an inverse
 pub record Field {R : Type 0} (𝓡 : CommRing R) : Type 0 where
@@ -106,7 +108,7 @@ module _ (p : ℕ) (P : Prime p) where
     oneNeZero = residue-nontrivial (P .large);
   }
 
--- ---- the primes that document 01 takes
+-- ---- the primes that are taken
 
 -- no number from 2 to p − 1 divides p
 unfoldable isPrime : ℕ → Bool
@@ -121,7 +123,29 @@ prime-by p t = record { large = leb→le 2 p (left (leb 2 p) _ t); undivided = u
         subst (λ (m : ℕ). T (not (eqb m 0))) e
         (all-member (λ (b : ℕ). not (eqb (p % b) 0)) (upFrom 2 (p - 2)) (right (leb 2 p) _ t) (upFrom-has 2 (p - 2) l (omega arith)))
 
+by-prime : (p : ℕ) → Prime p → T (isPrime p)
+unfolding isPrime
+by-prime p P =
+    both (leb 2 p) _ (le→leb 2 p (P .large))
+    (all-passes (λ (a : ℕ). not (eqb (p % a) 0)) (upFrom 2 (p - 2))
+    (λ a i.
+    let (l, u) = upFrom-member 2 (p - 2) i in
+    subst T (sym (ap not (ne-eqb (p % a) 0 (P .undivided a l (omega (arith, P .large)))))) tt))
+
 -- every taken prime is one: the test passes on the whole list
 pub taken-prime : (p : ℕ) → T (taken p) → Prime p
 unfolding taken primes isPrime allPass upFrom
 taken-prime p t = prime-by p (member-passes isPrime p primes t tt)
+
+-- a number is taken or it is no prime
+unfoldable takenOrNone : ℕ → Bool
+takenOrNone p = taken p || not (isPrime p)
+
+-- and every prime below 256 is taken: of the numbers below 256 those that are not in the list are no primes
+pub prime-taken : (p : ℕ) → Prime p → p < 256 → T (taken p)
+unfolding taken primes anyPasses isPrime takenOrNone allPass upFrom
+prime-taken p P l = at (either (taken p) _ (all-member takenOrNone (upFrom 0 256) tt {a = p} (upFrom-has 0 256 zero-le (omega arith))))
+  where
+    at : T (taken p) ⊎ T (not (isPrime p)) → T (taken p)
+    at (inl t) = t
+    at (inr n) = absurd (subst (λ b. T (not b)) (passes (isPrime p) (by-prime p P)) n)

@@ -9,7 +9,7 @@ ghost use lib.ListN.{length, getD};
 ghost use lib.Dec.{T};
 ghost use Rattle.specification.specs.Limits.{_²};
 ghost use Rattle.specification.specs.Commands.{operandCount, commands, has};
-ghost use Rattle.specification.specs.Coefficients.{coefficientCode, givenValue};
+ghost use Rattle.specification.specs.Coefficients.{isCoefficient, givenValue};
 ghost use Rattle.specification.specs.RunLength.{hasRun};
 ghost use Rattle.lists.specs.Decides.{Decides};
 ghost use Rattle.arrays.specs.Held.{MonicArray};
@@ -27,8 +27,8 @@ ghost use Rattle.answer_reader.specs.FoundInBytes.{
 use arrays::Coefs;
 use arrays::monomial;
 use commands::Sheet;
-use commands::coefficient_code;
 use commands::has_run;
+use commands::is_coefficient;
 use commands::operand_count;
 use modular::product;
 use polynomial::Poly;
@@ -84,12 +84,17 @@ fn find(answer: &[u8], code: u8) -> usize
     answer.len()
 }
 
-// The value that the coefficient's command at a place gives.
-fn value_at(answer: &[u8], at: usize, prime: u8) -> u16
-    requires { ⌜ (getD (now answer) at 0 ≡ coefficientCode prime) × (at + operandCount (coefficientCode prime) < length (now answer)) ⌝ }
+// The value that the coefficient's command at a place gives: two bytes under 0x05, low byte first, and one under 0x03, whatever the prime.
+fn value_at(answer: &[u8], at: usize) -> u16
+    requires { ⌜ (isCoefficient (commandAt (now answer) at) ≡ true) × (at + operandCount (getD (now answer) at 0) < length (now answer)) ⌝ }
     ensures { λ r. ⌜ r ≡ givenValue (commandAt (now (answer .entry)) at) ⌝ }
 {
-    answer[at + 2] as u16
+    let low = answer[at + 2] as u16;
+    if answer[at] == 0x05 {
+        low + 256 * answer[at + 3] as u16
+    } else {
+        low
+    }
 }
 
 // No coefficient that an answer has.
@@ -105,14 +110,14 @@ fn no_coefficient() -> Coefficient
 
 // The coefficient that the command at a place gives a polynomial.
 fn read_coefficient(answer: &[u8], at: usize, degree: usize, prime: u8) -> Coefficient
-    requires { ⌜ (getD (now answer) at 0 ≡ coefficientCode prime) × (at < length (now answer)) ⌝ }
+    requires { ⌜ (isCoefficient (commandAt (now answer) at) ≡ true) × (at < length (now answer)) ⌝ }
     ensures { λ r. ⌜ CoefficientOf (now (answer .entry)) at degree prime r ⌝ }
 {
-    if answer.len() - at <= operand_count(coefficient_code(prime)) {
+    if answer.len() - at <= operand_count(answer[at]) {
         return no_coefficient();
     }
     let index = answer[at + 1] as usize;
-    let value = value_at(answer, at, prime);
+    let value = value_at(answer, at);
     if degree <= index {
         return no_coefficient();
     }
@@ -126,16 +131,17 @@ fn read_coefficient(answer: &[u8], at: usize, degree: usize, prime: u8) -> Coeff
     }
 }
 
-// x to the degree with the coefficients that are written from a place on, before any other command.
+// x to the degree with the coefficients that are written from a place on, before any other command. Those of another prime's width are read as they stand:
+// the answer is compared whole in the end, and finds them out.
 fn read_coefficients(answer: &[u8], at: usize, degree: usize, prime: u8) -> Coefficients
     requires { ⌜ (1 < prime ²) × (degree ≤ 32) ⌝ }
     ensures { λ r. ⌜ CoefficientsOf (now (answer .entry)) at degree prime r ⌝ }
 {
-    let code = coefficient_code(prime);
     let mut coefs = monomial(degree);
     let mut next = at;
     while next < answer.len() {
-        if answer[next] != code {
+        let here = answer[next];
+        if !is_coefficient(here) {
             break;
         }
         let read = read_coefficient(answer, next, degree, prime);
@@ -147,7 +153,7 @@ fn read_coefficients(answer: &[u8], at: usize, degree: usize, prime: u8) -> Coef
         }
         let index = read.index;
         coefs[index] = read.value;
-        next += 1 + operand_count(code);
+        next += 1 + operand_count(here);
     }
     Coefficients {
         found: true,

@@ -1,7 +1,7 @@
 -- The promises of documents 00, 01 and 02 about every accepted sheet and every typed line, as the claims of `specification` state them.
--- Proves term 3 of the answer's bytes and of a call, items 1 to 9 and that Algorithm 4.5 splits alike, what is read off an answer, the degrees, the
--- settings, the run length, the answer's size and bytes, which sheets are taken, that inputs too long are refused, the reader, what copies are and show, and
--- how typed lines are read and answered.
+-- Proves which primes are taken, term 3 over every prime, of the answer's bytes and of a call, items 1 to 9 and that Algorithm 4.5 splits alike, what is
+-- read off an answer, the degrees, the settings, the run length, the answer's size and bytes, which sheets are taken, that inputs too long are refused, the
+-- reader, what copies are and show, and how typed lines are read and answered.
 -- Assumes nothing.
 use mathlib.Core.Path.{_≡_, refl, sym, _∙_, ap, subst}
 use mathlib.Core.Logic.{_↔_}
@@ -11,6 +11,7 @@ use Prim.Native.Nat.{ℕ, _≤_, _<_}
 use native.Mathlib.Omega.{arith}
 use lib.ListN.{length, take, drop}
 use lib.Seq.{take-append-seam}
+use borrow.Author.Tests.{le-leb, lt-leb}
 use Rattle.specification.specs.Limits.{degreeLimit, answerArea, _²}
 use Rattle.specification.specs.Polynomials.{Poly, degree, product}
 use Rattle.specification.specs.Powers.{powers}
@@ -25,6 +26,7 @@ use Rattle.specification.specs.Items1to3.{Items1to3}
 use Rattle.specification.specs.Items4to9.{Items4to9}
 use Rattle.specification.specs.Algorithm45.{AsPrinted}
 use Rattle.specification.specs.Term3.{LongestIn, Term3, Term3Call}
+use Rattle.specification.specs.PrimeClaims.{PrimesTaken, Widths, LongestOverPrimes}
 use Rattle.specification.specs.Longest as claimed
 use Rattle.specification.specs.ReaderClaims.{AnswerTo, ReaderExact, ReaderRefuses}
 use Rattle.specification.specs.SheetClaims.{AnswersFit, Fits, GoodSheet, LongInputs, SheetsTaken}
@@ -37,6 +39,7 @@ use Rattle.specification.specs.TypedClaims.{OneReading, LineOrPlace, AnyPart, O
 use Rattle.specification.specs.TypedTrials.{TypedTrials}
 use Rattle.algebra.specs.Numbers.{square-large}
 use Rattle.algebra.specs.Fields.{Prime, taken-prime}
+use Rattle.algebra.specs.TakenPrimes.{number-prime, taken-exactly, prime-count, primes-ascend}
 use Rattle.lists.specs.Members.{_∈_, All, all-map}
 use Rattle.items.specs.MonicLists.{MonicList, from-claimed, monic-list-mul}
 use Rattle.items.specs.MonicDivision.{monic-list-one}
@@ -124,6 +127,23 @@ module _ (s : Sheet) (g : GoodSheet s) where
   -- the factors that are written are different ones
   pub factors-differ : different (listOf (sheetParts s)) ≡ records (sheetParts s)
   factors-differ = different-records p prime monic
+
+-- ---- the primes
+
+pub primes-taken : PrimesTaken
+primes-taken = record { exactly = taken-exactly; ascend = primes-ascend; count = prime-count }
+
+pub widths : (p : ℕ) → Widths p
+widths p = record {
+  oneByte = λ l. rw (lt-leb 17 p l) ((λ i v. refl), refl);
+  twoBytes = λ l. rw (le-leb 17 p l) ((λ i v. refl), refl);
+}
+
+-- no list of primes enters: a prime is all that is asked for
+pub longest-over-primes : LongestOverPrimes
+longest-over-primes p P f m =
+    let prime : Prime p = number-prime P in
+    longest p prime (from-claimed (omega (arith, square-large p (prime .large))) m)
 
 -- ---- terms 2 and 3
 

@@ -1,10 +1,12 @@
-// The table of commands for the crates that read and write them: how many operands a command has, which code a coefficient has, when 0x04 is allowed.
+// The table of commands for the crates that read and write them: how many operands a command has, how wide a coefficient is and under which code it
+// stands, when 0x04 is allowed.
 // `Sheet` is what a sheet's commands say; the readers give it and the writers take it.
 ghost use mathlib.Core.Path.{_≡_};
 ghost use mathlib.Core.List.{[], _∷_};
 ghost use Prim.Native.Nat.{_<_};
-ghost use Rattle.specification.specs.Commands.{operandCount};
-ghost use Rattle.specification.specs.Coefficients.{coefficientCode};
+ghost use Rattle.specification.specs.Limits as limits;
+ghost use Rattle.specification.specs.Commands.{command, operandCount};
+ghost use Rattle.specification.specs.Coefficients.{coefficientCode, isCoefficient};
 ghost use Rattle.specification.specs.RunLength.{hasRun};
 use arrays::Coefs;
 
@@ -25,6 +27,7 @@ pub fn operand_count(code: u8) -> usize
         0x02 => 1,
         0x03 => 2,
         0x04 => 0,
+        0x05 => 3,
         0x0F => 0,
         0x11 => 3,
         0x12 => 2,
@@ -34,14 +37,29 @@ pub fn operand_count(code: u8) -> usize
     }
 }
 
-// 0x03: "coefficient of the i-th power is v".
-const COEFFICIENT: u8 = 0x03;
+// A coefficient's value has two bytes "for primes from 17 up", below one.
+pub fn wide(prime: u8) -> bool
+    ensures { λ r. ⌜ r ≡ limits.wide prime ⌝ }
+{
+    17 <= prime
+}
 
 // The command that gives a coefficient, for a prime.
 pub fn coefficient_code(prime: u8) -> u8
     ensures { λ r. ⌜ r ≡ coefficientCode prime ⌝ }
 {
-    COEFFICIENT
+    if wide(prime) { 0x05 } else { 0x03 }
+}
+
+// A command gives a coefficient, of whatever prime.
+pub fn is_coefficient(code: u8) -> bool
+    ensures { λ r. ⌜ r ≡ isCoefficient (command code []) ⌝ }
+{
+    match code {
+        0x03 => true,
+        0x05 => true,
+        _ => false,
+    }
 }
 
 // 14 is not its case: p does not divide the constant coefficient.

@@ -2,11 +2,9 @@
 -- Proves that a copy shows the figures that it was made of, so that no two figures have the same copy, and that the pairs of a sheet's answer are
 -- those of its parts. Assumes nothing.
 use mathlib.Core.Path.{_≡_, refl, sym, _∙_, ap, _≡⟨_⟩_, _∎}
-use mathlib.Core.Bool.{false}
 use mathlib.Core.List.{List, [], _∷_, _++_, append-nil, map, flatMap}
 use mathlib.Core.List.{List·Memᴰ·head as here}
 use Prim.Native.Nat.{ℕ}
-use lib.Dec.{eqb}
 use Rattle.specification.specs.Lists.{first}
 use Rattle.specification.specs.Polynomials.{Poly, lower}
 use Rattle.specification.specs.Parts.{Factor, Part}
@@ -19,9 +17,8 @@ use Rattle.specification.specs.Copy.{Pair, pairOf, partPairs, pairsOf, Figures,
 use Rattle.specification.specs.CopyClaims.{pairsAmong, pairsIn, FiguresIn, FiguresReadOff}
 use Rattle.lists.specs.Members.{all-cons, all-tail, all-append, all-map}
 use Rattle.lists.specs.FlatMaps.{flatMap-cons}
-use Rattle.layouts.specs.CoefficientBytes.{all-coefficients}
 use Rattle.layouts.specs.AnswerLayout.{sheetParts}
-use Rattle.layouts.specs.CommandsReadBack.{WellFormed, commands-back, Without, PassesOver}
+use Rattle.layouts.specs.CommandsReadBack.{WellFormed, commands-back, Without, PassesOver, coefficients-without}
 use Rattle.layouts.specs.AnswerReadBack.{answer-commands, end-without}
 
 -- other commands have no pair
@@ -86,7 +83,7 @@ factors-pairs p [] cs = unfold flatMap in refl
 factors-pairs p (q ∷ qs) cs =
     let f : Poly = lower (q .poly) in
     let more : List Command = flatMap (factorCommands p) qs ++ cs in
-    let past = pairs-past (coefficientCommands p 0 f) more (all-coefficients (λ c. eqb (c .code) 0x12 ≡ false) p 0 f (λ i v. refl)) in
+    let past = pairs-past (coefficientCommands p 0 f) more (coefficients-without p 0x12 refl refl 0 f) in
     ap pairsAmong (flatMap-cons (factorCommands p) q qs cs) ∙ pairs-factor p q more ∙ ap (λ (l : List Pair). pairOf q ∷ l) (past ∙ factors-pairs p qs cs)
 
 pairsOf-cons : (P : Part) (Ps : List Part) (l : List Pair) → pairsOf (P ∷ Ps) ++ l ≡ partPairs P ++ (pairsOf Ps ++ l)

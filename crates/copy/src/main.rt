@@ -4,7 +4,7 @@ use libc::STDIN_FILENO;
 use libc::STDOUT_FILENO;
 
 fn main() {
-    // The first 103 bytes decide (copy_output, `copied-prefix`), so a longer input need not be read to its end.
+    // The first 135 bytes decide (copy_output, `copied-prefix`), so a longer input need not be read to its end.
     let mut sheet = split_text::input();
     let got = io::read_full(STDIN_FILENO, &mut sheet);
     let mut out = [0u8; splitter::AREA];

@@ -1,5 +1,5 @@
 -- What is given out for the bytes of the program's input, by the call that copies them: `copied` of the specification.
--- Proves that inputs which are seen alike give out the same, that what follows the first 103 bytes changes nothing, and that it stands in the area where the
+-- Proves that inputs which are seen alike give out the same, that what follows the first 135 bytes changes nothing, and that it stands in the area where the
 -- call succeeded, and else once the line is written there. Assumes nothing.
 use mathlib.Core.Path.{_≡_, refl, sym, _∙_, ap, subst}
 use mathlib.Core.Logic.{_≢_}
@@ -73,7 +73,7 @@ module _ (sheet : List ℕ) {r : Outcome} {old new : List ℕ} (l : answerArea �
     same : new ≡ old
     same = copy-settled sheet h .unchanged ne .0
 
-    -- there is room for a line, at any place up to 102
+    -- there is room for a line, at any place up to 134
     pub line-room : (at : ℕ) → at ≤ sheetLimit → Room new 0 (refusalText (r .number) at)
     line-room at u =
         subst (λ (area : List ℕ). Room area 0 (refusalText (r .number) at)) (sym same)

@@ -2,6 +2,7 @@ pub mod Evaluation
 pub mod LinearMaps
 pub mod Frobenius
 pub mod FrobeniusPowers
+pub mod FixedElements
 pub mod Roots
 pub mod Span
 pub mod RowReduction
@@ -10,6 +11,7 @@ pub mod DifferenceProducts
 pub mod SplittingElements
 pub mod Unsplit
 pub mod PrimaryPowers
+pub mod SameFactors
 pub mod PowerDependencies
 pub mod Derivatives
 pub mod PowerRoots

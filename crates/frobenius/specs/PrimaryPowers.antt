@@ -31,8 +31,8 @@ module _ {R : Type 0} {𝓡 : CommRing R} where
   pub primary-degree : 𝓡 .𝟙 ≢ 𝓡 .𝟘 → {d : ℕ} {Q : Poly 𝓡} → Monic d Q → (S : PrimaryPower Q) → S .m * S .irreducible .degree ≡ d
   primary-degree nontrivial n S = monic-degree nontrivial (rw (S .multiplies) at (monic-pow (S .irreducible .monic) (S .m))) n
 
-module _ {p : ℕ} (P : Prime p) {d : ℕ} {Q : ℤ[x]/ p} (positive : 1 ≤ d) (monic : Monic d Q) (unsplit : Unsplit p d Q) where
-  module _ (t : IrreducibleDivisor Q) (M : Multiplicity (𝓩[x]/ p) (t .G) Q) where
+module _ {p : ℕ} (P : Prime p) {d : ℕ} {Q : ℤ[x]/ p} (monic : Monic d Q) (t : IrreducibleDivisor Q) where
+  module _ (M : Multiplicity (𝓩[x]/ p) (t .G) Q) where
     multiplicity-positive : 1 ≤ M .k
     multiplicity-positive = pos-of-ne-zero (λ e. M .stop (rw (sym (M .law) ∙ none e) at (t .divides)))
       where
@@ -41,43 +41,48 @@ module _ {p : ℕ} (P : Prime p) {d : ℕ} {Q : ℤ[x]/ p} (positive : 1 ≤ d) 
             ap (λ k. M .w · pow (𝓩[x]/ p) (t .G) k) e ∙ ap (λ a. M .w · a) (pow-zero (𝓩[x]/ p) (t .G))
             ∙ mul-one (𝓩[x]/ p) (M .w)
 
-    coprime : Coprime (𝓩[x]/ p) (M .w) (pow (𝓩[x]/ p) (t .G) (M .k))
-    coprime =
-        coprime-pow (𝓩[x]/ p) (M .k)
-        (coprime-sym (𝓩[x]/ p) (rest-coprime (irreducible-prime (residue-field p P) (t .irreducible)) M))
+    coprime : Coprime (𝓩[x]/ p) (M .w) (t .G)
+    coprime = coprime-sym (𝓩[x]/ p) (rest-coprime (irreducible-prime (residue-field p P) (t .irreducible)) M)
 
-    -- Q = w·G^k, and w is 𝟏, since it is coprime to G^k
-    power-of-divisor : PrimaryPower Q
-    power-of-divisor = go (monic-cofactor (residue-discrete p) (residue-field p P .oneNeZero) {d = d} (M .w) power monic-power (rw (M .law) monic))
-      where
-        power : ℤ[x]/ p
-        power = pow (𝓩[x]/ p) (t .G) (M .k)
+  -- Q = w·G^k, where G does not divide w; w is 𝟏 if it cannot be of degree 1 or more
+  pub primary-power : ((M : Multiplicity (𝓩[x]/ p) (t .G) Q) (j : ℕ) → Monic (suc j) (M .w) → Coprime (𝓩[x]/ p) (M .w) (t .G) → ⊥) → PrimaryPower Q
+  primary-power alone = go (monic-cofactor (residue-discrete p) (residue-field p P .oneNeZero) {d = d} (M .w) power monic-power (rw (M .law) monic))
+    where
+      M : Multiplicity (𝓩[x]/ p) (t .G) Q
+      M = multiplicity (residue-discrete p) (t .irreducible .positive) (t .irreducible .monic) Q (monic-nonzero (residue-field p P .oneNeZero) monic)
 
-        monic-power : Monic (M .k * t .irreducible .degree) power
-        monic-power = monic-pow (t .irreducible .monic) (M .k)
+      power : ℤ[x]/ p
+      power = pow (𝓩[x]/ p) (t .G) (M .k)
 
-        go : (j : ℕ) × Monic j (M .w) × (j + M .k * t .irreducible .degree ≡ d) → PrimaryPower Q
-        go (zero, mw, s) = record {
-          G = t .G;
-          m = M .k;
-          irreducible = t .irreducible;
-          positive = multiplicity-positive;
-          multiplies = sym ((𝓩[x]/ p) .*-one power) ∙ ap (λ a. a · power) (sym (monic-zero mw)) ∙ M .law;
-        }
-        go (suc j, mw, s) =
-            absurd (unsplit-indivisible P positive monic unsplit (record {
-              i = suc j;
-              j = M .k * t .irreducible .degree;
-              monicA = mw;
-              monicB = monic-power;
-              positiveA = omega arith;
-              positiveB = mul-pos multiplicity-positive (t .irreducible .positive);
-              coprime = coprime;
-              multiplies = M .law;
-            }))
+      monic-power : Monic (M .k * t .irreducible .degree) power
+      monic-power = monic-pow (t .irreducible .monic) (M .k)
 
-  pub unsplit-power : PrimaryPower Q
-  unsplit-power =
-      let t = irreducible-divisor P positive monic in
-      power-of-divisor t
-      (multiplicity (residue-discrete p) (t .irreducible .positive) (t .irreducible .monic) Q (monic-nonzero (residue-field p P .oneNeZero) monic))
+      go : (j : ℕ) × Monic j (M .w) × (j + M .k * t .irreducible .degree ≡ d) → PrimaryPower Q
+      go (zero, mw, s) = record {
+        G = t .G;
+        m = M .k;
+        irreducible = t .irreducible;
+        positive = multiplicity-positive M;
+        multiplies = sym ((𝓩[x]/ p) .*-one power) ∙ ap (λ a. a · power) (sym (monic-zero mw)) ∙ M .law;
+      }
+      go (suc j, mw, s) = absurd (alone M j mw (coprime M))
+
+pub unsplit-power : {p : ℕ} → Prime p → {d : ℕ} {Q : ℤ[x]/ p} → 1 ≤ d → Monic d Q → Unsplit p d Q → PrimaryPower Q
+unsplit-power {p} P {d} {Q} positive monic unsplit = primary-power P monic t alone
+  where
+    t : IrreducibleDivisor Q
+    t = irreducible-divisor P positive monic
+
+    -- w is coprime to G^k
+    alone : (M : Multiplicity (𝓩[x]/ p) (t .G) Q) (j : ℕ) → Monic (suc j) (M .w) → Coprime (𝓩[x]/ p) (M .w) (t .G) → ⊥
+    alone M j mw c =
+        unsplit-indivisible P positive monic unsplit (record {
+          i = suc j;
+          j = M .k * t .irreducible .degree;
+          monicA = mw;
+          monicB = monic-pow (t .irreducible .monic) (M .k);
+          positiveA = omega arith;
+          positiveB = mul-pos (multiplicity-positive P monic t M) (t .irreducible .positive);
+          coprime = coprime-pow (𝓩[x]/ p) (M .k) c;
+          multiplies = M .law;
+        })

@@ -9,7 +9,7 @@ use Rattle.algebra.specs.Ring.{CommRing, zero-mul, add-neg, eq-of-sub, linear1}
 use Rattle.algebra.specs.Identities.{con, _⊕_, _⊖_, _⊗_, ⊝_, _≈_, solve}
 use Rattle.algebra.specs.Divisibility.{_∣_, Coprime, pow, pow-suc, pow-one, divides-trans}
 use Rattle.algebra.specs.Residues.{Residues}
-use Rattle.algebra.specs.PolynomialRing.{_+ᴿ_, _·_, -ᴿ_, 𝟎, 𝟏, constant, coefficients, constant-neg}
+use Rattle.algebra.specs.PolynomialRing.{_+ᴿ_, _·_, -ᴿ_, 𝟎, 𝟏, constant, coefficients}
 use Rattle.algebra.specs.Degree.{Below, Monic, below-up, below-add, below-neg, below-constant, monic-one, small-multiple}
 use Rattle.algebra.specs.Division.{Divided}
 use Rattle.algebra.specs.Leading.{divide}
@@ -19,14 +19,14 @@ use Rattle.algebra.specs.Congruence.{
   congruent-equal,
   congruent-sym,
   congruent-trans,
-  congruent-add,
   congruent-mul,
   congruent-pow,
   divides-congruent,
   congruent-remainder,
 }
 use Rattle.factorisation.specs.MonicDivisors.{divisor-degree}
-use Rattle.frobenius.specs.FrobeniusPowers.{_^ᴿ_, power-add, power-constant}
+use Rattle.frobenius.specs.FrobeniusPowers.{_^ᴿ_}
+use Rattle.frobenius.specs.FixedElements.{Fixed, fixed-less}
 use Rattle.frobenius.specs.SplittingElements.{CoprimeFactors}
 use Rattle.algebra.specs.CoefficientLists.{ℤ[x]/, 𝓩[x]/}
 
@@ -92,14 +92,8 @@ module _ {p : ℕ} (P : Prime p) where
         (congruent-trans (𝓩[x]/ p) (rw (prime-suc P) at (idempotent-power (𝓩[x]/ p) c (p - 1))) remainder)
 
     -- r without its constant term is a splitting element
-    fixed : Congruent (𝓩[x]/ p) (A · B) ((r +ᴿ -ᴿ constant (r .coef 0)) ^ᴿ p) (r +ᴿ -ᴿ constant (r .coef 0))
-    fixed =
-        congruent-trans (𝓩[x]/ p) (congruent-equal (𝓩[x]/ p) power)
-        (congruent-add (𝓩[x]/ p) power-r (congruent-equal (𝓩[x]/ p) refl))
-      where
-        power : (r +ᴿ -ᴿ constant (r .coef 0)) ^ᴿ p ≡ r ^ᴿ p +ᴿ -ᴿ constant (r .coef 0)
-        power = rw (← constant-neg (r .coef 0))
-            (power-add P r (constant ((Residues p) .neg (r .coef 0))) ∙ ap (λ a. r ^ᴿ p +ᴿ a) (power-constant P ((Residues p) .neg (r .coef 0))))
+    fixed : Fixed (A · B) (r +ᴿ -ᴿ constant (r .coef 0))
+    fixed = fixed-less (A · B) r P (r .coef 0) power-r
 
   unsplit-product : {d i j : ℕ} {A B : ℤ[x]/ p} → 1 ≤ d → Monic d (A · B) → Monic i A → Monic j B → 1 ≤ i → 1 ≤ j
       → Coprime (𝓩[x]/ p) A B → Unsplit p d (A · B) → ⊥

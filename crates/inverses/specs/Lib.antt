@@ -1,4 +1,4 @@
+pub mod Unique
 pub mod Rule
 pub mod InverseTable
-pub mod Unique
 pub mod Answer

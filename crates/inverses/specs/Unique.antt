@@ -1,5 +1,5 @@
 -- Inverses modulo n: there is at most one below n.
--- Proves that the definition `inverse` gives it where there is one, and 0 where there is none. Assumes nothing.
+-- Proves that the definition `inverse` gives it where there is one. Assumes nothing.
 use mathlib.Core.Path.{_≡_, sym, _∙_, ap, subst}
 use mathlib.Core.Bool.{Bool}
 use Prim.Native.Nat.{ℕ, _*_, _%_, _<_, zero-le}
@@ -9,12 +9,12 @@ use lib.Dec.{T, eqb, eqb→eq}
 use Rattle.algebra.specs.Numbers.{mul-mod-mod}
 use Rattle.specification.specs.Inverses.{inverse}
 use Rattle.specification.specs.Lists.{upFrom, below}
-use Rattle.lists.specs.Firsts.{first-passes, first-none}
+use Rattle.lists.specs.Firsts.{first-passes}
 use Rattle.lists.specs.NumbersFrom.{upFrom-member, upFrom-has}
 
 module _ (n a : ℕ) where
   -- b = b·(c·a) = c·(b·a) = c
-  unique : (b c : ℕ) → b < n → c < n → b * a % n ≡ 1 → c * a % n ≡ 1 → b ≡ c
+  pub unique : (b c : ℕ) → b < n → c < n → b * a % n ≡ 1 → c * a % n ≡ 1 → b ≡ c
   unique b c hb hc eb ec = sym (times b c hb ec) ∙ ap (λ x. x % n) (omega arith) ∙ times c b hc eb
     where
       times : (x y : ℕ) → x < n → y * a % n ≡ 1 → x * (y * a) % n ≡ x
@@ -28,7 +28,3 @@ module _ (n a : ℕ) where
   inverse-is b h e =
       let (i, t) = first-passes leaves-one 0 (upFrom 0 n) (upFrom-has 0 n zero-le (omega arith)) (subst (λ (m : ℕ). T (eqb m 1)) (sym e) tt) in
       unique (inverse n a) b (omega (arith, upFrom-member 0 n i .1)) h (eqb→eq (inverse n a * a % n) 1 t) e
-
-  pub inverse-none : ((b : ℕ) → b * a % n ≡ 1 → ⊥) → inverse n a ≡ 0
-  unfolding inverse below leaves-one
-  inverse-none h = first-none leaves-one 0 (upFrom 0 n) (λ b i t. h b (eqb→eq (b * a % n) 1 t))

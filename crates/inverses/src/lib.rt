@@ -1,239 +1,108 @@
-// The inverses of the 70 units modulo 4, 9, 25 and 49, in one table of arrays by prime.
+// The 6,027 inverses modulo the taken primes, in one flat table with offsets by prime.
+ghost use mathlib.Core.Path.{_≡_};
+ghost use Prim.Native.Nat.{_<_};
 ghost use lib.ListN.{getD};
 ghost use Rattle.specification.specs.Limits.{primes};
 ghost use Rattle.inverses.specs.Rule.{Rule};
+ghost use Rattle.inverses.specs.InverseTable as of;
 ghost use Rattle.inverses.specs.InverseTable.{Inverses};
 ghost use Rattle.inverses.specs.Answer.{Answer};
 
-const INVERSES: [[u16; 49]; 4] = [
-    [
-        0,
-        1,
-        0,
-        3,
-        0,
-        0,
-        0,
-        0,
-        0,
-        0,
-        0,
-        0,
-        0,
-        0,
-        0,
-        0,
-        0,
-        0,
-        0,
-        0,
-        0,
-        0,
-        0,
-        0,
-        0,
-        0,
-        0,
-        0,
-        0,
-        0,
-        0,
-        0,
-        0,
-        0,
-        0,
-        0,
-        0,
-        0,
-        0,
-        0,
-        0,
-        0,
-        0,
-        0,
-        0,
-        0,
-        0,
-        0,
-        0,
-    ],
-    [
-        0,
-        1,
-        5,
-        0,
-        7,
-        2,
-        0,
-        4,
-        8,
-        0,
-        0,
-        0,
-        0,
-        0,
-        0,
-        0,
-        0,
-        0,
-        0,
-        0,
-        0,
-        0,
-        0,
-        0,
-        0,
-        0,
-        0,
-        0,
-        0,
-        0,
-        0,
-        0,
-        0,
-        0,
-        0,
-        0,
-        0,
-        0,
-        0,
-        0,
-        0,
-        0,
-        0,
-        0,
-        0,
-        0,
-        0,
-        0,
-        0,
-    ],
-    [
-        0,
-        1,
-        13,
-        17,
-        19,
-        0,
-        21,
-        18,
-        22,
-        14,
-        0,
-        16,
-        23,
-        2,
-        9,
-        0,
-        11,
-        3,
-        7,
-        4,
-        0,
-        6,
-        8,
-        12,
-        24,
-        0,
-        0,
-        0,
-        0,
-        0,
-        0,
-        0,
-        0,
-        0,
-        0,
-        0,
-        0,
-        0,
-        0,
-        0,
-        0,
-        0,
-        0,
-        0,
-        0,
-        0,
-        0,
-        0,
-        0,
-    ],
-    [
-        0,
-        1,
-        25,
-        33,
-        37,
-        10,
-        41,
-        0,
-        43,
-        11,
-        5,
-        9,
-        45,
-        34,
-        0,
-        36,
-        46,
-        26,
-        30,
-        31,
-        27,
-        0,
-        29,
-        32,
-        47,
-        2,
-        17,
-        20,
-        0,
-        22,
-        18,
-        19,
-        23,
-        3,
-        13,
-        0,
-        15,
-        4,
-        40,
-        44,
-        38,
-        6,
-        0,
-        8,
-        39,
-        12,
-        16,
-        24,
-        48,
-    ],
+mod entries; // entries.rt: the table's bytes
+
+// Where the entries of each prime begin: after the q − 1 entries of each prime q before it.
+const OFFSETS: [usize; 54] = [
+    0,
+    1,
+    3,
+    7,
+    13,
+    23,
+    35,
+    51,
+    69,
+    91,
+    119,
+    149,
+    185,
+    225,
+    267,
+    313,
+    365,
+    423,
+    483,
+    549,
+    619,
+    691,
+    769,
+    851,
+    939,
+    1035,
+    1135,
+    1237,
+    1343,
+    1451,
+    1563,
+    1689,
+    1819,
+    1955,
+    2093,
+    2241,
+    2391,
+    2547,
+    2709,
+    2875,
+    3047,
+    3225,
+    3405,
+    3595,
+    3787,
+    3983,
+    4181,
+    4391,
+    4613,
+    4839,
+    5067,
+    5299,
+    5537,
+    5777,
 ];
 
 // The whole table, with its rule.
-fn table() -> [[u16; 49]; 4]
+fn table() -> [u8; 6027]
     ensures { λ t. ⌜ Inverses t ⌝ }
 {
-    INVERSES
+    entries::INVERSES
 }
 
-// The table's entry; 0 outside the table.
-fn entry_at(row: usize, a: usize) -> u16
+// Where the entries of the prime at the place `row` of the list begin.
+fn offset(row: usize) -> usize
+    requires { ⌜ row < 54 ⌝ }
+    ensures { λ r. ⌜ r ≡ of.offset row ⌝ }
+{
+    OFFSETS[row]
+}
+
+// The table's entry for the unit a modulo the prime at that place.
+fn entry_at(row: usize, a: u8) -> u8
+    requires { ⌜ (row < 54) × (0 < a) × (a < getD primes row 0) ⌝ }
     ensures { λ r. ⌜ Rule (getD primes row 0) a r ⌝ }
 {
     let t = table();
-    if row < 4 {
-        if a < 49 { t[row][a] } else { 0 }
-    } else {
-        0
-    }
+    let first = offset(row);
+    t[first + (a as usize - 1)]
 }
 
-// The inverse of a modulo the square of the prime, for a taken prime and a below the square; 0 in every other case.
-pub fn inverse(prime: u8, a: u16) -> u16
+// The inverse of a modulo the prime, for a taken prime and 0 < a < prime; 0 in every other case.
+pub fn inverse(prime: u8, a: u8) -> u8
     ensures { λ r. ⌜ Answer prime a r ⌝ }
 {
-    entry_at(primes::place(prime), a as usize)
+    let row = primes::place(prime);
+    if 54 <= row {
+        return 0;
+    }
+    if a == 0 {
+        return 0;
+    }
+    if a < prime { entry_at(row, a) } else { 0 }
 }

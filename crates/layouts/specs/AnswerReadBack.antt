@@ -12,7 +12,7 @@ use Rattle.specification.specs.Polynomials.{Poly, degree, lower, monomial}
 use Rattle.specification.specs.Parts.{Factor, Part}
 use Rattle.specification.specs.Totals.{copies, listOf, total, different, freeDigits, Totals, totalsOf}
 use Rattle.specification.specs.Commands.{Command, command, twoBytes, fromTwoBytes, operandCount, commands, firstWith, has}
-use Rattle.specification.specs.Coefficients.{coefficientCode, coefficientCommands}
+use Rattle.specification.specs.Coefficients.{coefficientCommands}
 use Rattle.specification.specs.RunLength.{runLength}
 use Rattle.specification.specs.Sheets.{Sheet, headCommands}
 use Rattle.specification.specs.Answers.{factorCommands, partCommands, runCommands, endCommands, answerCommands, answer}
@@ -28,12 +28,14 @@ use Rattle.layouts.specs.AnswerLayout.{sheetParts}
 use Rattle.items.specs.ListOfParts.{copies-cons, listOf-cons}
 use Rattle.layouts.specs.CommandsReadBack.{
   WellFormed,
+  coefficient-well-formed,
   commands-back,
   Without,
   PassesOver,
   firstWith-past,
   has-past,
   factors-past,
+  coefficients-without,
   NoCoefficient,
   written-back,
 }
@@ -68,17 +70,25 @@ well-formed s Ps =
     all-cons refl (all-cons refl (all-append (all-parts s (record {
       part = λ d m v. refl;
       factor = λ e t. refl;
-      coefficients = λ f. all-coefficients WellFormed (s .prime) 0 f (λ i v. refl);
+      coefficients = λ f. all-coefficients WellFormed (s .prime) 0 f (coefficient-well-formed (s .prime));
     }) Ps) (all-cons refl (all-append (all-asked WellFormed (s .run) _ refl) (all-cons refl (λ c i. elim i [ ]))))))
 
--- no part has a code that is none of 0x11, 0x12 and a coefficient's
-parts-without : (s : Sheet) (code : ℕ) → eqb 0x11 code ≡ false → eqb 0x12 code ≡ false → eqb (coefficientCode (s .prime)) code ≡ false → (Ps : List Part)
-    → Without code (flatMap (partCommands s) Ps)
-parts-without s code h i j Ps =
+-- a code that no part has
+record NoPart (code : ℕ) : Type 0 where
+  part : eqb 0x11 code ≡ false
+  factor : eqb 0x12 code ≡ false
+  one : eqb 0x03 code ≡ false
+  two : eqb 0x05 code ≡ false
+
+no-part : {code : ℕ} → eqb 0x11 code ≡ false → eqb 0x12 code ≡ false → eqb 0x03 code ≡ false → eqb 0x05 code ≡ false → NoPart code
+no-part h i j k = record { part = h; factor = i; one = j; two = k }
+
+parts-without : (s : Sheet) (code : ℕ) → NoPart code → (Ps : List Part) → Without code (flatMap (partCommands s) Ps)
+parts-without s code h Ps =
     all-parts s (record {
-      part = λ d m v. h;
-      factor = λ e t. i;
-      coefficients = λ f. all-coefficients (λ c. eqb (c .code) code ≡ false) (s .prime) 0 f (λ k v. j);
+      part = λ d m v. h .part;
+      factor = λ e t. h .factor;
+      coefficients = coefficients-without (s .prime) code (h .one) (h .two) 0;
     }) Ps
 
 -- ---- no coefficient follows a factor's own
@@ -131,7 +141,7 @@ factors-back p (q ∷ qs) cs h o =
     let f : Poly = lower (q .poly) in
     let more : List Command = flatMap (factorCommands p) qs ++ cs in
     let back = written-back p (q .poly) more (h q (here refl)) (other-factors p qs cs o) in
-    let past = factors-past (coefficientCommands p 0 f) more (all-coefficients (λ c. eqb (c .code) 0x12 ≡ false) p 0 f (λ i v. refl)) in
+    let past = factors-past (coefficientCommands p 0 f) more (coefficients-without p 0x12 refl refl 0 f) in
     simp (flatMap-cons, factors-factor, back, past, factors-back p qs cs (all-tail h) o, copies-cons, append-assoc)
 
 parts-back : {n : ℕ} (s : Sheet) (Ps : List Part) (cs : List Command) → MonicFactors n Ps → NoCoefficient cs
@@ -165,20 +175,21 @@ module _ (s : Sheet) where
       listOf Ps ∎
 
   -- what stands in the head or in the end alone is found past the parts
-  module _ (code : ℕ) (part : eqb 0x11 code ≡ false) (factor : eqb 0x12 code ≡ false) (coefficient : eqb (coefficientCode (s .prime)) code ≡ false)
-      (head : Without code (headCommands s)) where
+  module _ (code : ℕ) (none : NoPart code) (head : Without code (headCommands s)) where
     end-alone : {A : Type 0} (F : List Command → A) → PassesOver code F → F (commands (answer s)) ≡ F (endCommands s (totalsOf Ps))
     unfolding answerCommands
     end-alone F past =
         ap F answer-commands
         ∙ past (headCommands s) (flatMap (partCommands s) Ps ++ endCommands s (totalsOf Ps)) head
-        ∙ past (flatMap (partCommands s) Ps) (endCommands s (totalsOf Ps)) (parts-without s code part factor coefficient Ps)
+        ∙ past (flatMap (partCommands s) Ps) (endCommands s (totalsOf Ps)) (parts-without s code none Ps)
 
   pub head-back : firstWith 0x01 (commands (answer s)) ≡ command 0x01 (s .prime ∷ [])
   head-back = rw answer-commands (unfold answerCommands headCommands firstWith first in refl)
 
   totals : firstWith 0x13 (commands (answer s)) ≡ firstWith 0x13 (endCommands s (totalsOf Ps))
-  totals = end-alone 0x13 refl refl refl (unfold headCommands in all-cons refl (all-cons refl (λ c i. elim i [ ]))) (firstWith 0x13) (firstWith-past 0x13)
+  totals =
+      end-alone 0x13 (no-part refl refl refl refl) (unfold headCommands in all-cons refl (all-cons refl (λ c i. elim i [ ])))
+      (firstWith 0x13) (firstWith-past 0x13)
 
   pub total-back : factorTotal (answer s) ≡ total Ps
   unfolding factorTotal firstWith first endCommands
@@ -199,7 +210,7 @@ module _ (s : Sheet) where
 
   pub run-shown : has 0x14 (commands (answer s)) ≡ s .run
   unfolding endCommands runCommands has anyPasses
-  run-shown = end-alone 0x14 refl refl refl head-without-run (has 0x14) (has-past 0x14) ∙ asked (s .run) (command 0x14 _) refl
+  run-shown = end-alone 0x14 (no-part refl refl refl refl) head-without-run (has 0x14) (has-past 0x14) ∙ asked (s .run) (command 0x14 _) refl
     where
       asked : (b : Bool) (c : Command) → c .code ≡ 0x14 → has 0x14 (cond b (c ∷ []) [] ++ (command 0x0F [] ∷ [])) ≡ b
       asked true c e = rw e refl
@@ -207,7 +218,7 @@ module _ (s : Sheet) where
 
   run-command : s .run ≡ true → firstWith 0x14 (commands (answer s)) ≡ command 0x14 (twoBytes (runLength (s .prime) (s .poly)))
   unfolding endCommands runCommands firstWith first
-  run-command e = end-alone 0x14 refl refl refl head-without-run (firstWith 0x14) (firstWith-past 0x14) ∙ rw e refl
+  run-command e = end-alone 0x14 (no-part refl refl refl refl) head-without-run (firstWith 0x14) (firstWith-past 0x14) ∙ rw e refl
 
   pub run-back : s .run ≡ true → runIn (answer s) ≡ runLength (s .prime) (s .poly)
   unfolding runIn

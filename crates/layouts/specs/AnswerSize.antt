@@ -1,4 +1,4 @@
--- How large an answer is, where its parts have the shape `PartShape n`: a part of degree D takes at most 10·D bytes.
+-- How large an answer is, where its parts have the shape `PartShape n`: a part of degree D takes at most 11·D bytes.
 -- Proves that the answer to a good sheet fits the answer area of 384 bytes, and that every byte of it is below 256. Assumes nothing.
 use mathlib.Core.Path.{_≡_, refl, ap}
 use mathlib.Core.Bool.{true}
@@ -18,7 +18,7 @@ use Rattle.specification.specs.Sheets.{Sheet}
 use Rattle.specification.specs.Answers.{verdictNumber, factorCommands, partCommands, runCommands, endCommands, answerCommands, answer}
 use Rattle.specification.specs.SheetClaims.{GoodSheet}
 use Rattle.lists.specs.Tests.{passes}
-use Rattle.algebra.specs.TakenPrimes.{fits-byte, square-fits-byte}
+use Rattle.algebra.specs.TakenPrimes.{fits-byte, square-small}
 use Rattle.lists.specs.Members.{All, all-cons, all-tail, all-append}
 use Rattle.lists.specs.Sums.{total as sum}
 use Rattle.items.specs.Factors.{degrees}
@@ -55,11 +55,11 @@ unfolding runCommands
 length-run s = length-asked (s .run) (command 0x14 (twoBytes (runLength (s .prime) (s .poly))))
 
 module _ {n : ℕ} (s : Sheet) where
-  -- a factor of degree e takes at most 3 + 3·e bytes, and its repeats weigh at least e
-  length-factors : {d : ℕ} (qs : List Factor) → All (FactorShape n d) qs → length (flatMap (factorBytes (s .prime)) qs) ≤ 6 * degrees qs
-  length-factors qs h = length-weighed (factorBytes (s .prime)) 6 (λ (q : Factor). degree (q .poly) * q .times) qs each
+  -- a factor of degree e takes at most 3 + 4·e bytes, and its repeats weigh at least e
+  length-factors : {d : ℕ} (qs : List Factor) → All (FactorShape n d) qs → length (flatMap (factorBytes (s .prime)) qs) ≤ 7 * degrees qs
+  length-factors qs h = length-weighed (factorBytes (s .prime)) 7 (λ (q : Factor). degree (q .poly) * q .times) qs each
     where
-      each : All (λ q. length (factorBytes (s .prime) q) ≤ 6 * (degree (q .poly) * q .times)) qs
+      each : All (λ q. length (factorBytes (s .prime) q) ≤ 7 * (degree (q .poly) * q .times)) qs
       each q i =
           let q-is = h q i in
           omega (
@@ -71,10 +71,10 @@ module _ {n : ℕ} (s : Sheet) where
             q-is .monic .positive,
           )
 
-  length-parts : (Ps : List Part) → All (PartShape n) Ps → length (flatMap (partBytes s) Ps) ≤ 10 * partDegrees Ps
-  length-parts Ps h = length-weighed (partBytes s) 10 partDegree Ps each
+  length-parts : (Ps : List Part) → All (PartShape n) Ps → length (flatMap (partBytes s) Ps) ≤ 11 * partDegrees Ps
+  length-parts Ps h = length-weighed (partBytes s) 11 partDegree Ps each
     where
-      each : All (λ P. length (partBytes s P) ≤ 10 * partDegree P) Ps
+      each : All (λ P. length (partBytes s P) ≤ 11 * partDegree P) Ps
       each P i =
           let P-is = h P i in
           omega (
@@ -86,7 +86,7 @@ module _ {n : ℕ} (s : Sheet) where
             P-is .base,
           )
 
-  answer-length : (Ps : List Part) → All (PartShape n) Ps → length (answerBytes s Ps) ≤ endsRoom + 10 * partDegrees Ps
+  answer-length : (Ps : List Part) → All (PartShape n) Ps → length (answerBytes s Ps) ≤ endsRoom + 11 * partDegrees Ps
   answer-length Ps h =
       omega (
         arith,
@@ -108,7 +108,7 @@ byte-verdict solid = omega arith
 byte-verdict power = omega arith
 byte-verdict (split m1) = omega arith
 
-module _ (s : Sheet) (small : s .prime ² ≤ 256) where
+module _ (s : Sheet) (small : s .prime ² ≤ 65536) where
   abbrev p : ℕ
   p = s .prime
 
@@ -159,4 +159,4 @@ module _ (s : Sheet) (shapes : All (PartShape (s .prime ²)) (sheetParts s)) (fi
   answer-is-bytes g =
       let t : taken (s .prime) ≡ true = passes (taken (s .prime)) (g .prime) in
       rw (answer-is s)
-      (answer-bytes s (square-fits-byte (s .prime) t) (sheetParts s) (fits-byte t) (omega (arith, g .fits)) shapes (omega (arith, fits)))
+      (answer-bytes s (omega (arith, square-small (s .prime) t)) (sheetParts s) (fits-byte t) (omega (arith, g .fits)) shapes (omega (arith, fits)))

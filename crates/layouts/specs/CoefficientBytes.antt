@@ -1,41 +1,61 @@
 -- The bytes of the commands of a coefficient list, and the list below the top, for which they are written.
--- Proves how wide a value is, how the bytes of two lists stand together, how many they are and that each is a byte, and that a monic list is what
--- stands below the top and then 1. Assumes nothing.
+-- Proves what holds of coefficients of one byte and of two, how the bytes of two lists stand together, how many they are and that each is a byte, and
+-- that a monic list is what stands below the top and then 1. Assumes nothing.
 use mathlib.Core.Path.{_≡_, refl, sym, _∙_, ap}
-use mathlib.Core.Bool.{true}
+use mathlib.Core.Bool.{Bool, true, false, cond}
 use mathlib.Core.List.{List, [], _∷_, _++_, append-nil, flatMap}
 use Prim.Native.Nat.{ℕ, zero, suc, _<_, _≤_, _+_, _*_}
 use native.Mathlib.Nat.{add-zero, zero-add, suc-add, add-suc}
 use native.Mathlib.Omega.{arith}
-use lib.ListN.{length, getD, take, length-append}
+use lib.ListN.{length, getD, take, drop, length-append}
 use lib.Seq.{getD-take, length-take-le, take-suc}
 use Rattle.specification.specs.Polynomials.{Poly, degree, lower}
-use Rattle.specification.specs.Commands.{Command, commandBytes, bytesOf}
+use Rattle.specification.specs.Commands.{Command, command, commandBytes, twoBytes, bytesOf}
 use Rattle.specification.specs.Coefficients.{coefficientCode, isCoefficient, valueBytes, valueOf, coefficientCommand, coefficientCommands}
 use Rattle.specification.specs.Longest as claimed
-use Rattle.specification.specs.Limits.{_²}
+use Rattle.specification.specs.Limits.{wide, _²}
+use Rattle.algebra.specs.TakenPrimes.{square-fits-byte}
 use Rattle.lists.specs.Members.{All, all-cons}
 use Rattle.lists.specs.Ends.{then, last-again}
-use Rattle.layouts.specs.CommandBytes.{Byte, byte-none, ByteCommand, bytesOf-append}
+use Rattle.layouts.specs.CommandBytes.{Byte, byte-none, ByteCommand, bytesOf-append, bytes-two, two-back}
 
--- ---- one value
+-- ---- one value, of one byte or of two
+
+module _ (p v : ℕ) where
+  -- what holds of both widths holds of a coefficient's command, whatever the prime
+  pub either-width : (C : Command → Type 0) (i : ℕ) → (wide p ≡ false → C (command 0x03 (i ∷ v ∷ []))) → (wide p ≡ true → C (command 0x05 (i ∷ twoBytes v)))
+      → C (coefficientCommand p i v)
+  either-width C i one two = by (wide p) refl
+    where
+      by : (w : Bool) → wide p ≡ w → C (command (cond w 0x05 0x03) (i ∷ cond w (twoBytes v) (v ∷ [])))
+      by false e = one e
+      by true e = two e
+
+  pub value-one : wide p ≡ false → v ∷ [] ≡ valueBytes p v
+  value-one e = rw e refl
+
+  pub value-two : wide p ≡ true → twoBytes v ≡ valueBytes p v
+  value-two e = rw e refl
+
+  -- found again
+  pub value-back : valueOf (valueBytes p v) ≡ v
+  value-back = either-width (λ c. valueOf (drop 1 (c .operands)) ≡ v) 0 (λ e. omega arith) (λ e. two-back v)
+
+  pub is-coefficient : (i : ℕ) → isCoefficient (coefficientCommand p i v) ≡ true
+  is-coefficient i = either-width (λ c. isCoefficient c ≡ true) i (λ e. refl) (λ e. refl)
 
 -- the most bytes of a coefficient's command: code, index and value
 abbrev pub coefficientRoom : ℕ
-coefficientRoom = 3
+coefficientRoom = 4
 
 length-value : (p v : ℕ) → 2 + length (valueBytes p v) ≤ coefficientRoom
-length-value p v = omega arith
+length-value p v = either-width p v (λ c. 2 + length (drop 1 (c .operands)) ≤ coefficientRoom) 0 (λ e. omega arith) (λ e. omega arith)
 
--- found again
-pub value-back : (p v : ℕ) → valueOf (valueBytes p v) ≡ v
-value-back p v = refl
-
-pub is-coefficient : (p i v : ℕ) → isCoefficient (coefficientCommand p i v) ≡ true
-is-coefficient p i v = refl
-
-bytes-value : (p v : ℕ) → p ² ≤ 256 → v < p ² → All Byte (valueBytes p v)
-bytes-value p v small l = all-cons (omega arith) byte-none
+byte-coefficient : (p i v : ℕ) → p ² ≤ 65536 → v < p ² → Byte i → ByteCommand (coefficientCommand p i v)
+byte-coefficient p i v small l low =
+    either-width p v ByteCommand i
+    (λ e. all-cons (omega arith) (all-cons low (all-cons (omega (arith, square-fits-byte p e)) byte-none)))
+    (λ e. all-cons (omega arith) (all-cons low (bytes-two v (omega arith))))
 
 -- ---- the commands of a list
 
@@ -120,10 +140,10 @@ module _ (p : ℕ) where
         length-value p (suc a),
       )
 
-  pub byte-coefficients : (i : ℕ) (f : Poly) → p ² ≤ 256 → i + length f ≤ 256 → ((k : ℕ) → k < length f → getD f k 0 < p ²)
+  pub byte-coefficients : (i : ℕ) (f : Poly) → p ² ≤ 65536 → i + length f ≤ 256 → ((k : ℕ) → k < length f → getD f k 0 < p ²)
       → All ByteCommand (coefficientCommands p i f)
   byte-coefficients i f small l h =
-      all-coefficients-in ByteCommand p i f (λ k u. all-cons (omega arith) (all-cons (omega arith) (bytes-value p (getD f k 0) small (h k u))))
+      all-coefficients-in ByteCommand p i f (λ k u. byte-coefficient p (i + k) (getD f k 0) small (h k u) (omega arith))
 
 -- ---- below the top
 

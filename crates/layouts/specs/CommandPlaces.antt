@@ -47,6 +47,9 @@ module _ (bytes : List ℕ) (at : ℕ) where
       length-take (operandCount (getD bytes at 0)) (drop (at + 1) bytes)
       ∙ ap (min (operandCount (getD bytes at 0))) (length-drop (at + 1) bytes)
 
+  pub operands-few : length (operandsAt bytes at) ≤ operandCount (getD bytes at 0)
+  operands-few = omega (arith, count)
+
   pub operands-there : at < length bytes → WellFormed (commandAt bytes at) → placeAfter bytes at ≤ length bytes
   operands-there l w = omega (arith, w, count)
 

@@ -10,6 +10,7 @@ use native.Mathlib.Omega.{arith}
 use lib.ListN.{length, take, drop, set, length-append}
 use lib.Seq.{set-at, append-snoc, take-append-seam, drop-at}
 use lib.Dec.{eqb}
+use Rattle.specification.specs.Lists.{first}
 use Rattle.specification.specs.Polynomials.{Poly, degree, lower, monomial}
 use Rattle.specification.specs.Commands.{Command, command, commandBytes, bytesOf, operandCount, commandsAfter, commands, firstWith, has}
 use Rattle.specification.specs.Coefficients.{isCoefficient, coefficientCommand, coefficientCommands, withCoefficient}
@@ -18,13 +19,17 @@ use Rattle.specification.specs.Longest as claimed
 use Rattle.lists.specs.Members.{All, all-tail}
 use Rattle.lists.specs.AllAny.{any-past}
 use Rattle.lists.specs.Firsts.{first-past}
-use Rattle.layouts.specs.CoefficientBytes.{is-coefficient, value-back, length-lower, lower-top}
+use Rattle.layouts.specs.CoefficientBytes.{either-width, is-coefficient, value-back, all-coefficients, length-lower, lower-top}
 
 -- ---- commands in bytes
 
 -- a command has as many operands as its code says
 abbrev pub WellFormed : Command → Type 0
 WellFormed c = operandCount (c .code) ≡ length (c .operands)
+
+pub coefficient-well-formed : (p i v : ℕ) → WellFormed (coefficientCommand p i v)
+unfolding operandCount first
+coefficient-well-formed p i v = either-width p v WellFormed i (λ e. refl) (λ e. refl)
 
 -- the bytes of a command, and then others
 pub commands-cut : (code : ℕ) (bytes : List ℕ)
@@ -73,6 +78,11 @@ unfolding factorsIn
 factors-past [] ds h = refl
 factors-past (c ∷ cs) ds h = rw (h c (here refl)) (factors-past cs ds (all-tail h))
 
+-- a coefficient's code is 0x03 or 0x05
+pub coefficients-without : (p code : ℕ) → eqb 0x03 code ≡ false → eqb 0x05 code ≡ false → (i : ℕ) (f : Poly) → Without code (coefficientCommands p i f)
+coefficients-without p code one two i f =
+    all-coefficients (λ c. eqb (c .code) code ≡ false) p i f (λ k v. either-width p v (λ c. eqb (c .code) code ≡ false) k (λ e. one) (λ e. two))
+
 -- ---- "the coefficients written directly after it, before any other command"
 
 -- the next command, if there is one, gives no coefficient
@@ -92,7 +102,7 @@ written-more f c cs e = rw (e, withCoefficients)
 
 with-first : (p i v : ℕ) (f : Poly) (cs : List Command) → withCoefficients f (coefficientCommand p i v ∷ cs) ≡ withCoefficients (set f i v) cs
 with-first p i v f cs =
-    written-more f (coefficientCommand p i v) cs (is-coefficient p i v) ∙ ap (λ (w : ℕ). withCoefficients (set f i w) cs) (value-back p v)
+    written-more f (coefficientCommand p i v) cs (is-coefficient p v i) ∙ ap (λ (w : ℕ). withCoefficients (set f i w) cs) (value-back p v)
 
 -- the coefficients a are there, t is to come
 written-after : (p i : ℕ) (a t : Poly) (cs : List Command) → length a ≡ i → NoCoefficient cs

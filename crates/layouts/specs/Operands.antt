@@ -1,15 +1,17 @@
 -- The operands of a sheet's commands: when a degree, an index and a value are taken, as facts on numbers.
 -- Proves each test from its facts and the facts from the test, and that the operands' readers are exact. Assumes nothing.
+use mathlib.Core.Bool.{Bool, true, false, cond}
 use mathlib.Core.List.{[], _∷_}
 use Prim.Native.Nat.{ℕ, _≤_, _<_}
 use lib.Dec.{T, leb, ltb, leb→le, ltb→lt}
 use borrow.Author.Tests.{lt-ltb, le-leb}
-use Rattle.specification.specs.Limits.{taken, degreeLimit, _²}
-use Rattle.specification.specs.Reading.{withOperand}
+use Rattle.specification.specs.Limits.{taken, wide, degreeLimit, _²}
+use Rattle.specification.specs.Commands.{twoBytes}
+use Rattle.specification.specs.Reading.{byte, twoByteNumber, withOperand}
 use Rattle.specification.specs.Coefficients.{valueBytes, indexTaken, indexOperand, valueTaken, valueOperand}
 use Rattle.specification.specs.Sheets.{primeOperand, degreeTaken, degreeOperand}
 use Rattle.lists.specs.Tests.{left, right}
-use Rattle.layouts.specs.ReaderLaws.{Exact, operand-exact, with-exact}
+use Rattle.layouts.specs.ReaderLaws.{Exact, byte-exact, two-exact, judged-any, operand-exact, with-exact}
 
 -- ---- 5, 6 and 7
 
@@ -43,4 +45,8 @@ pub index-exact : (d least : ℕ) → Exact (indexOperand d least) (λ i. T (ind
 index-exact d least = operand-exact 6 (indexTaken d least)
 
 pub value-exact : (p : ℕ) → Exact (valueOperand p) (λ v. T (valueTaken p v)) (valueBytes p)
-value-exact p = operand-exact 7 (valueTaken p)
+value-exact p = judged-any (by (wide p)) 7 (valueTaken p)
+  where
+    by : (w : Bool) → Exact (cond w (twoByteNumber 7) byte) (λ v. Unit {0}) (λ v. cond w (twoBytes v) (v ∷ []))
+    by true = two-exact 7
+    by false = byte-exact

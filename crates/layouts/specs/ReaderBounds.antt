@@ -3,13 +3,13 @@
 use mathlib.Core.Path.{_≡_, refl, _∙_, ap}
 use mathlib.Core.Bool.{Bool, true, false, cond, _&&_}
 use mathlib.Core.List.{List, [], _∷_}
-use Prim.Native.Nat.{ℕ, zero, suc, _≤_, _<_, _+_, _-_}
+use Prim.Native.Nat.{ℕ, zero, suc, _≤_, _<_, _+_, _-_, _*_}
 use native.Mathlib.Omega.{arith}
 use lib.ListN.{length, take}
 use lib.Dec.{T, eqb, leb, leb→le}
 use Rattle.specification.specs.Lists.{allPass, anyPasses}
 use Rattle.specification.specs.Sheets.{sheetNumbers}
-use Rattle.specification.specs.Reading.{Read, got, stop, Reader, done, goOn, _>>=_, judged, onNext, byte, commandByte, withOperand, flag}
+use Rattle.specification.specs.Reading.{Read, got, stop, Reader, done, goOn, _>>=_, judged, onNext, byte, isByte, twoByteNumber, commandByte, withOperand, flag}
 use Rattle.lists.specs.Tests.{picked, left, right}
 use Rattle.lists.specs.AllAny.{member-passes}
 
@@ -51,7 +51,7 @@ bounded-done a g = record {
   decides = λ at n bytes l. ap (λ (k : ℕ). got a at (take k bytes)) (let e : n ≡ at + n - at = omega arith in e);
 }
 
-bounded-byte : Bounded byte (λ b. Unit {0}) 1 0
+pub bounded-byte : Bounded byte (λ b. Unit {0}) 1 0
 unfolding byte
 bounded-byte = record { within = within; decides = decides }
   where
@@ -156,6 +156,12 @@ bounded-next {A} {r} {other} {Good} {most} {last} code b c = record { within = w
             → cond t (r at (x ∷ take n bytes)) (other at (x ∷ take n bytes)) ≡ cut (at + suc n) (cond t (r at (x ∷ bytes)) (other at (x ∷ bytes)))
         chosen true = b .decides at (suc n) (x ∷ bytes) l
         chosen false = c .decides at (suc n) (x ∷ bytes) l
+
+pub bounded-two : (k : ℕ) → Numbered k → Bounded (twoByteNumber k) (λ v. Unit {0}) 2 2
+unfolding twoByteNumber
+bounded-two k h =
+    bounded-then (omega arith) (bounded-judged bounded-byte k isByte h) (λ low t.
+    bounded-then (omega arith) bounded-byte (λ high t. bounded-done (low + 256 * high) tt))
 
 -- ---- operands and commands
 

@@ -1,18 +1,19 @@
 -- Readers that are exact: `Exact r Good written`, r reads exactly the good values, each from its own bytes.
 -- Proves it of bytes, judged values and commands with an operand, how a reading goes on where readers are joined or a command may come, and what a
 -- command says that is there or not. Assumes nothing.
-use mathlib.Core.Path.{_≡_, refl, _∙_, ap}
+use mathlib.Core.Path.{_≡_, refl, _∙_, ap, ap₂}
 use mathlib.Core.Bool.{Bool, true, false, cond, false≢true}
 use mathlib.Core.List.{List, [], _∷_, _++_, flatMap}
-use Prim.Native.Nat.{ℕ, suc, _+_}
+use Prim.Native.Nat.{ℕ, suc, _<_, _+_, _*_, _/_, _%_}
 use native.Mathlib.Omega.{arith}
 use lib.ListN.{length}
-use lib.Dec.{T, eqb, eqb→eq}
-use borrow.Author.Tests.{eq-eqb, ne-eqb}
+use lib.Dec.{T, eqb, ltb, eqb→eq, ltb→lt}
+use borrow.Author.Tests.{eq-eqb, ne-eqb, lt-ltb}
 use Rattle.specification.specs.Lists.{anyPasses}
-use Rattle.specification.specs.Commands.{bytesOf, flagCommands}
-use Rattle.specification.specs.Reading.{Read, got, stop, Reader, done, goOn, _>>=_, judged, onNext, byte, commandByte, withOperand, flag}
+use Rattle.specification.specs.Commands.{bytesOf, flagCommands, twoBytes}
+use Rattle.specification.specs.Reading.{Read, got, stop, Reader, done, goOn, _>>=_, judged, onNext, byte, isByte, twoByteNumber, commandByte, withOperand, flag}
 use Rattle.lists.specs.Tests.{picked, passes, fails, or-right}
+use Rattle.layouts.specs.CommandBytes.{two-back}
 
 -- ---- what a reading says, if there is no fault
 
@@ -101,7 +102,7 @@ pub record Exact {A : Type 0} (r : Reader A) (Good : A → Type 0) (written : A 
   pub complete : (at : ℕ) (a : A) (rest : List ℕ) → Good a → r at (written a ++ rest) ≡ got a (at + length (written a)) rest
 
 -- any byte
-byte-exact : Exact byte (λ b. Unit {0}) (λ b. b ∷ [])
+pub byte-exact : Exact byte (λ b. Unit {0}) (λ b. b ∷ [])
 byte-exact = record { sound = sound; complete = λ at a rest g. unfold byte in ap (λ (k : ℕ). got a k rest) (let e : suc at ≡ at + 1 = omega arith in e) }
   where
     sound : (at : ℕ) (bytes : List ℕ) → Holds (Stands (λ b. Unit {0}) (λ b. b ∷ []) bytes) (byte at bytes)
@@ -128,9 +129,33 @@ module _ {A : Type 0} {r : Reader A} {Good : A → Type 0} {written : A → List
     complete = λ at a rest f. x .complete at a rest (from a f);
   }
 
+-- a judged value of which nothing else is asked
+pub judged-any : {A : Type 0} {r : Reader A} {written : A → List ℕ} → Exact r (λ a. Unit {0}) written → (k : ℕ) (good : A → Bool)
+    → Exact (judged k good r) (λ a. T (good a)) written
+judged-any x k good = exact-as (judged-exact x k good) (λ a (u, t). t) (λ a t. (tt, t))
+
 -- an operand of one byte
 pub operand-exact : (k : ℕ) (good : ℕ → Bool) → Exact (judged k good byte) (λ b. T (good b)) (λ b. b ∷ [])
-operand-exact k good = exact-as (judged-exact byte-exact k good) (λ b (u, t). t) (λ b t. (tt, t))
+operand-exact k good = judged-any byte-exact k good
+
+-- a number of two bytes
+pub two-exact : (k : ℕ) → Exact (twoByteNumber k) (λ v. Unit {0}) twoBytes
+unfolding twoByteNumber done
+two-exact k = record {
+  sound = λ at bytes.
+      holds-then (Stands (λ v. Unit {0}) twoBytes bytes) (judged k isByte byte) _ at bytes (operand-exact k isByte .sound at bytes) (λ low at₁ rest₁ (t, e₁).
+      holds-then (Stands (λ v. Unit {0}) twoBytes bytes) byte _ at₁ rest₁ (byte-exact .sound at₁ rest₁) (λ high at₂ rest₂ (u, e₂).
+      (tt, e₁ ∙ ap (λ (l : List ℕ). low ∷ l) e₂ ∙ same low high rest₂ (ltb→lt low 256 t))));
+  complete = λ at v rest u.
+      then-goes (judged k isByte byte) _ (operand-exact k isByte .complete at (v % 256) (v / 256 ∷ rest) (rw (lt-ltb (v % 256) 256 (omega arith)) tt))
+      ∙ then-goes byte _ (byte-exact .complete (at + 1) (v / 256) rest tt)
+      ∙ ap₂ (λ (n place : ℕ). got n place rest) (two-back v) (let e : at + 1 + 1 ≡ at + 2 = omega arith in e);
+}
+  where
+    same : (low high : ℕ) (rest : List ℕ) → low < 256 → low ∷ high ∷ rest ≡ twoBytes (low + 256 * high) ++ rest
+    same low high rest l =
+        ap₂ (λ (a b : ℕ). a ∷ b ∷ rest) (let e : low ≡ (low + 256 * high) % 256 = omega arith in e)
+        (let e : high ≡ (low + 256 * high) / 256 = omega arith in e)
 
 command-exact : (code : ℕ) → Exact (commandByte code) (λ b. T (eqb b code)) (λ b. b ∷ [])
 unfolding commandByte

@@ -1,17 +1,18 @@
 -- How long sheets are.
--- Proves that a sheet has at most 102 bytes, that a fault stands at place 102 at the latest and has a number of `sheetNumbers`, and that the first 103
+-- Proves that a sheet has at most 134 bytes, that a fault stands at place 134 at the latest and has a number of `sheetNumbers`, and that the first 135
 -- bytes decide. Assumes nothing.
 use mathlib.Core.Path.{_≡_, refl, sym, _∙_, ap}
+use mathlib.Core.Bool.{Bool, true, false, cond}
 use mathlib.Core.List.{List, [], _∷_, _++_}
 use Prim.Native.Nat.{ℕ, zero, suc, _≤_, _<_, _+_, _-_, _*_}
 use native.Mathlib.Omega.{arith}
 use lib.ListN.{length, take, set, length-set}
 use lib.Seq.{take-nil, take-append-le}
 use lib.Dec.{T}
-use Rattle.specification.specs.Limits.{taken, degreeLimit}
+use Rattle.specification.specs.Limits.{taken, wide, degreeLimit}
 use Rattle.specification.specs.Lists.{anyPasses}
 use Rattle.specification.specs.Polynomials.{Poly, degree, monomial}
-use Rattle.specification.specs.Reading.{Read, got, stop}
+use Rattle.specification.specs.Reading.{Read, got, stop, byte, twoByteNumber}
 use Rattle.specification.specs.Coefficients.{coefficientCode, indexTaken, indexOperand, valueTaken, valueOperand, coefficients}
 use Rattle.specification.specs.RunLength.{hasRun}
 use Rattle.specification.specs.Sheets.{Sheet, degreeTaken, sheet, Reading, accepted, fault, whole, readSheet}
@@ -25,10 +26,13 @@ use Rattle.layouts.specs.ReaderBounds.{
   cut,
   Bounded,
   bounded-done,
+  bounded-byte,
   bounded-wider,
   bounded-never,
   bounded-then,
   bounded-next,
+  bounded-judged,
+  bounded-two,
   bounded-operand,
   bounded-command,
   bounded-with,
@@ -41,9 +45,13 @@ Any a = Unit {0}
 
 -- ---- the coefficients
 
--- an index and a value are one byte each
-value-bounded : (p : ℕ) → Bounded (valueOperand p) (λ v. T (valueTaken p v)) 1 0
-value-bounded p = bounded-operand 7 (valueTaken p) (unfold anyPasses in tt)
+-- an index is one byte, a value one or two
+value-bounded : (p : ℕ) → Bounded (valueOperand p) (λ v. T (valueTaken p v)) 2 2
+value-bounded p = bounded-judged (by (wide p)) 7 (valueTaken p) (unfold anyPasses in tt)
+  where
+    by : (w : Bool) → Bounded (cond w (twoByteNumber 7) byte) (λ v. Unit {0}) 2 2
+    by true = bounded-two 7 (unfold anyPasses in tt)
+    by false = bounded-wider bounded-byte (omega arith) (omega arith)
 
 index-bounded : (d least : ℕ) → Bounded (indexOperand d least) (λ i. T (indexTaken d least i)) 1 0
 index-bounded d least = bounded-operand 6 (indexTaken d least) (unfold anyPasses in tt)
@@ -114,7 +122,7 @@ module _ (bytes : List ℕ) where
       go (accepted s) e = absurd (omega (arith, accepted-length s e))
       go (fault k at) e = (k, at, e)
 
-  -- "the first place at fault ends the reading", and it is among the first 103 bytes
+  -- "the first place at fault ends the reading", and it is among the first 135 bytes
   pub first-bytes-decide : readSheet (take (suc sheetLimit) bytes) ≡ readSheet bytes
   unfolding readSheet whole
   first-bytes-decide =

@@ -1,5 +1,5 @@
 -- How large a good sheet is.
--- Proves at most 102 bytes, by the reader's bound, and each below 256, command by command; the head is that of answers too. Assumes nothing.
+-- Proves at most 134 bytes, by the reader's bound, and each below 256, command by command; the head is that of answers too. Assumes nothing.
 use mathlib.Core.Path.{_≡_}
 use mathlib.Core.Bool.{true}
 use mathlib.Core.List.{[]}
@@ -12,7 +12,7 @@ use Rattle.specification.specs.Commands.{command}
 use Rattle.specification.specs.Sheets.{Sheet, headCommands, lastCommands, sheetCommands, sheetBytes}
 use Rattle.specification.specs.SheetClaims.{GoodSheet, sheetLimit}
 use Rattle.lists.specs.Tests.{passes}
-use Rattle.algebra.specs.TakenPrimes.{fits-byte, square-fits-byte}
+use Rattle.algebra.specs.TakenPrimes.{fits-byte, square-small}
 use Rattle.lists.specs.Members.{All, all-cons, all-append}
 use Rattle.layouts.specs.CommandBytes.{Byte, byte-none, ByteCommand, bytes-of, all-asked}
 use Rattle.layouts.specs.CoefficientBytes.{byte-coefficients, length-lower, lower-reduced}
@@ -42,5 +42,6 @@ module _ (s : Sheet) (g : GoodSheet s) where
       bytes-of (sheetCommands s)
       (all-append (bytes-head s (fits-byte t) (omega (arith, g .fits)))
       (all-append
-      (byte-coefficients (s .prime) 0 (lower f) (square-fits-byte (s .prime) t) (omega (arith, length-lower f, g .fits)) (lower-reduced f (g .monic)))
+      (byte-coefficients (s .prime) 0 (lower f) (omega (arith, square-small (s .prime) t)) (omega (arith, length-lower f, g .fits))
+      (lower-reduced f (g .monic)))
       (bytes-last s)))

@@ -3,11 +3,12 @@
 -- Assumes nothing.
 use mathlib.Core.Path.{_≡_, refl, sym, _∙_, ap, subst, _≡⟨_⟩_, _∎}
 use mathlib.Core.Logic.{_↔_}
-use mathlib.Core.Bool.{Bool}
+use mathlib.Core.Bool.{Bool, false}
 use mathlib.Core.List.{List, [], _∷_, _++_, append-assoc, append-nil}
 use Prim.Native.Nat.{ℕ, suc, _+_}
 use native.Mathlib.Omega.{arith}
 use lib.ListN.{length, length-append}
+use lib.Dec.{eqb}
 use Rattle.specification.specs.Lists.{anyPasses}
 use Rattle.specification.specs.Polynomials.{degree, lower}
 use Rattle.specification.specs.Commands.{bytesOf, flagCommands}
@@ -19,7 +20,7 @@ use Rattle.specification.specs.SheetClaims.{GoodSheet}
 use Rattle.layouts.specs.ReaderLaws.{Holds, holds-then, then-goes, command-sound, command-goes}
 use Rattle.layouts.specs.ReaderLaws.{Other, begins-other, flag-sound, flag-goes, flag-begins}
 use Rattle.layouts.specs.Operands.{degree-passes, degree-within, prime-exact, degree-exact}
-use Rattle.layouts.specs.CoefficientBytes.{coefficientBytes}
+use Rattle.layouts.specs.CoefficientBytes.{either-width, coefficientBytes}
 use Rattle.layouts.specs.SheetLayout.{headBytes-is, lastBytes-is, sheetBytes-is}
 use Rattle.layouts.specs.GoodSheets.{asked-good}
 use Rattle.layouts.specs.SheetStages.{allCoefficients, afterCoefficients, afterDegree}
@@ -87,7 +88,8 @@ last-other : (s : Sheet) (rest : List ℕ) → Other (coefficientCode (s .prime)
 unfolding anyPasses
 last-other s rest =
     begins-other (coefficientCode (s .prime)) (0x04 ∷ 0x0F ∷ []) (askedBytes (s .run) ++ (0x0F ∷ rest))
-    (flag-begins 0x04 (s .run) (0x0F ∷ []) (0x0F ∷ rest) tt) refl
+    (flag-begins 0x04 (s .run) (0x0F ∷ []) (0x0F ∷ rest) tt)
+    (either-width (s .prime) 0 (λ c. anyPasses (eqb (c .code)) (0x04 ∷ 0x0F ∷ []) ≡ false) 0 (λ e. refl) (λ e. refl))
 
 sheet-complete : (s : Sheet) → GoodSheet s → (rest : List ℕ) → sheet 0 (sheetBytes s ++ rest) ≡ got s (length (sheetBytes s)) rest
 sheet-complete s g rest =

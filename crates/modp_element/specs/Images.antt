@@ -1,6 +1,7 @@
 -- The loop of `images`: `PowerImages p q d i images`, the first i images are the remainders of x^(p·k) − x^k by q.
--- Proves that the loop begins so and goes on so, and that the images are then those that the mathematics of the map v^p − v has. Assumes nothing.
-use mathlib.Core.Path.{_≡_, refl, _∙_, ap, subst}
+-- Proves how the powers x^(p·k) are made, that the loop begins so and goes on so, and that the images are then those that the mathematics of the map
+-- v^p − v has. Assumes nothing.
+use mathlib.Core.Path.{_≡_, refl, sym, _∙_, ap, ap₂, subst}
 use mathlib.Core.List.{List, [], _∷_}
 use mathlib.Core.Logic.{_≢_}
 use Prim.Native.Nat.{ℕ, _<_, _≤_, _-_, _+_}
@@ -9,19 +10,20 @@ use native.Mathlib.Decide.{ℕ-discrete}
 use native.Mathlib.Omega.{arith}
 use lib.ListN.{length, set, replicate, length-set, length-replicate}
 use lib.Seq.{getD-set-same, getD-set-other}
-use Rattle.algebra.specs.Ring.{mul-one}
+use Rattle.algebra.specs.Ring.{mul-one, add-neg}
+use Rattle.algebra.specs.Divisibility.{pow, pow-zero, pow-one}
 use Rattle.algebra.specs.Residues.{residue}
-use Rattle.algebra.specs.PolynomialRing.{_+ᴿ_, _·_, -ᴿ_, constant}
+use Rattle.algebra.specs.PolynomialRing.{_+ᴿ_, _·_, -ᴿ_, x, 𝟏, constant}
 use Rattle.algebra.specs.Monomials.{x^}
-use Rattle.algebra.specs.Degree.{below-up, below-add, below-neg, monic-pow-x}
+use Rattle.algebra.specs.Degree.{below-up, below-add, below-neg, below-𝟎, monic-pow-x}
 use Rattle.algebra.specs.CoefficientLists.{poly, 𝓩[x]/}
-use Rattle.algebra.specs.Congruence.{congruent-equal, congruent-add}
+use Rattle.algebra.specs.Congruence.{congruent-equal, congruent-trans, congruent-add, congruent-mul}
 use Rattle.algebra.specs.ListDivision.{poly-unit}
-use Rattle.arrays.specs.Represents.{Represents}
+use Rattle.arrays.specs.Represents.{Represents, zeros}
 use Rattle.frobenius.specs.LinearMaps.{Remainders}
 use Rattle.frobenius.specs.FrobeniusPowers.{_^ᴿ_, differenceImages}
 use Rattle.modular.specs.Multiples.{minus-one-multiple}
-use Rattle.quotients.specs.Remainder.{Remainder}
+use Rattle.quotients.specs.Remainder.{Remainder, remainder-as}
 use Rattle.modp_dependency.specs.declared.Image.{Image}
 use Rattle.modp_dependency.specs.Dependency.{coefsOf, imageOf, Images}
 
@@ -29,46 +31,74 @@ pub record PowerImages (p : ℕ) (q : List ℕ) (d i : ℕ) (images : List Image
   pub slots : length images ≡ 33
   pub each : (k : ℕ) → k < i → Remainder p q d (coefsOf images k) (differenceImages p k)
 
+-- a + (p − 1)·x^i is a − x^i
+pub less-power : (p i : ℕ) (a m : List ℕ) → 0 < p
+    → Represents p m (poly p a +ᴿ constant (residue p (p - 1)) · (x^ i · poly p (1 ∷ replicate 32 0))) → Represents p m (poly p a +ᴿ -ᴿ x^ i)
+less-power p i a m pos h = record {
+  reduced = h .reduced;
+  is = h .is
+      ∙ ap (λ b. poly p a +ᴿ b)
+      (minus-one-multiple p pos (x^ i · poly p (1 ∷ replicate 32 0))
+      ∙ ap (λ b. -ᴿ b) (ap (λ b. x^ i · b) (poly-unit p 32) ∙ mul-one (𝓩[x]/ p) (x^ i)));
+}
+
 module _ {p : ℕ} {q : List ℕ} {d : ℕ} where
-  pub images-none : {z : Image} → PowerImages p q d 0 (replicate 33 z)
-  images-none {z} = record { slots = length-replicate {A = Image} 33 z; each = λ k l. absurd (omega arith) }
+  -- x^p by shifts of 1, or as a power of x
+  pub shifted-power : {a r : List ℕ} → Represents p a (x^ 0) → Remainder p q d r (x^ p · poly p a) → Remainder p q d r (x^ p)
+  shifted-power ha h = remainder-as p h (congruent-equal (𝓩[x]/ p) (ap (λ b. x^ p · b) (ha .is ∙ pow-zero (𝓩[x]/ p) x) ∙ mul-one (𝓩[x]/ p) (x^ p)))
 
-  -- m is w − x^i; p − 1 stands for −1
-  image-more : (i : ℕ) {w m : List ℕ} → 0 < p → i < d → Remainder p q d w (x^ p ^ᴿ i)
-      → Represents p m (poly p w +ᴿ constant (residue p (p - 1)) · (x^ i · poly p (1 ∷ replicate 32 0)))
-      → Remainder p q d m (differenceImages p i)
-  image-more i {w} {m} pos l hw hm = record {
-    reduced = hm .reduced;
-    small = rw is (below-add (hw .small) (below-neg (below-up l (monic-pow-x i .below))));
-    congruent = rw is (congruent-add (𝓩[x]/ p) (hw .congruent) (congruent-equal (𝓩[x]/ p) refl));
-  }
+  pub squared-power : {a r : List ℕ} → Represents p a (x^ 1) → Remainder p q d r (pow (𝓩[x]/ p) (poly p a) p) → Remainder p q d r (x^ p)
+  squared-power ha h = rw (ha .is, pow-one (𝓩[x]/ p) x) at h
+
+  -- a product with x^p modulo q
+  pub multiplied-power : (a : List ℕ) {y r : List ℕ} → Remainder p q d y (x^ p) → Remainder p q d r (poly p a · poly p y) → Remainder p q d r (x^ p · poly p a)
+  multiplied-power a {y} hy h =
+      remainder-as p h
+      (congruent-trans (𝓩[x]/ p) (congruent-equal (𝓩[x]/ p) ((𝓩[x]/ p) .*-comm (poly p a) (poly p y)))
+      (congruent-mul (𝓩[x]/ p) (hy .congruent) (congruent-equal (𝓩[x]/ p) refl)))
+
+  pub first-power : {y : List ℕ} → Remainder p q d y (x^ p) → Remainder p q d y (x^ p ^ᴿ 1)
+  first-power h = rw (pow-one (𝓩[x]/ p) (x^ p)) h
+
+  -- the image of 1 is 0
+  pub images-none : 0 < p → PowerImages p q d 1 (replicate 33 (record { coefs = replicate 33 0 }))
+  images-none pos = record { slots = length-replicate {A = Image} 33 (record { coefs = replicate 33 0 }); each = λ k l. at k (omega arith) }
     where
-      is : poly p m ≡ poly p w +ᴿ -ᴿ x^ i
-      is =
-          hm .is
-          ∙ ap (λ a. poly p w +ᴿ a)
-          (minus-one-multiple p pos (x^ i · poly p (1 ∷ replicate 32 0))
-          ∙ ap (λ a. -ᴿ a) (ap (λ a. x^ i · a) (poly-unit p 32) ∙ mul-one (𝓩[x]/ p) (x^ i)))
+      zero-image : Remainder p q d (replicate 33 0) (differenceImages p 0)
+      zero-image = record {
+        reduced = zeros p pos .reduced;
+        small = rw (zeros p pos .is) (below-𝟎 d);
+        congruent = congruent-equal (𝓩[x]/ p)
+            (zeros p pos .is ∙ sym (ap₂ (λ a b. a +ᴿ -ᴿ b) (pow-zero (𝓩[x]/ p) (x ^ᴿ p)) (pow-zero (𝓩[x]/ p) x) ∙ add-neg (𝓩[x]/ p) 𝟏));
+      }
 
-  pub images-more : {i : ℕ} {images : List Image} {w m : List ℕ} → 0 < p → i < d → i < 33 → PowerImages p q d i images
-      → Remainder p q d w (x^ p ^ᴿ i) → Represents p m (poly p w +ᴿ constant (residue p (p - 1)) · (x^ i · poly p (1 ∷ replicate 32 0)))
-      → PowerImages p q d (i + 1) (set images i (record { coefs = m }))
-  images-more {i} {images} {w} {m} pos l fits h hw hm = record {
-    slots = length-set images i (record { coefs = m }) ∙ h .slots;
+      at : (k : ℕ) → k ≡ 0 → Remainder p q d (coefsOf (replicate 33 (record { coefs = replicate 33 0 })) k) (differenceImages p k)
+      at k e = rw e zero-image
+
+  -- m is w − x^i
+  image-more : (i : ℕ) {w m : List ℕ} → i < d → Remainder p q d w (x^ p ^ᴿ i) → Represents p m (poly p w +ᴿ -ᴿ x^ i)
+      → Remainder p q d m (differenceImages p i)
+  image-more i {w} {m} l hw hm = record {
+    reduced = hm .reduced;
+    small = rw (hm .is) (below-add (hw .small) (below-neg (below-up l (monic-pow-x i .below))));
+    congruent = rw (hm .is) (congruent-add (𝓩[x]/ p) (hw .congruent) (congruent-equal (𝓩[x]/ p) refl));
+  }
+
+  pub images-more : {i : ℕ} {images : List Image} {w : List ℕ} {image : Image} → i < d → i < 33 → PowerImages p q d i images
+      → Remainder p q d w (x^ p ^ᴿ i) → Represents p (image .coefs) (poly p w +ᴿ -ᴿ x^ i) → PowerImages p q d (i + 1) (set images i image)
+  images-more {i} {images} {w} {image} l fits h hw hm = record {
+    slots = length-set images i image ∙ h .slots;
     each = λ k u. at k u (ℕ-discrete k i);
   }
     where
-      image : Image
-      image = record { coefs = m }
-
-      here : coefsOf (set images i image) i ≡ m
+      here : coefsOf (set images i image) i ≡ image .coefs
       here = ap (λ (z : Image). z .coefs) (getD-set-same images i image (record { coefs = [] }) (omega (arith, h .slots)))
 
       other : (k : ℕ) → k ≢ i → coefsOf (set images i image) k ≡ coefsOf images k
       other k ne = ap (λ (z : Image). z .coefs) (getD-set-other images i k image (record { coefs = [] }) ne)
 
       at : (k : ℕ) → k < i + 1 → Dec (k ≡ i) → Remainder p q d (coefsOf (set images i image) k) (differenceImages p k)
-      at k u (yes e) = rw (e, here) (image-more i pos l hw hm)
+      at k u (yes e) = rw (e, here) (image-more i l hw hm)
       at k u (no ne) = rw (other k ne) (h .each k (omega (arith, ne)))
 
   pub images-done : {i : ℕ} {images : List Image} → i ≤ d → d ≤ i → PowerImages p q d i images → PowerImages p q d d images

@@ -3,16 +3,23 @@
 // point of the library.
 ghost use Prim.Native.Nat.{_<_};
 ghost use Rattle.algebra.specs.Fields.{Prime};
+ghost use Rattle.algebra.specs.PolynomialRing.{_+ᴿ_, _·_, -ᴿ_};
+ghost use Rattle.algebra.specs.Monomials.{x^};
 ghost use Rattle.algebra.specs.Degree.{Below, Monic};
 ghost use Rattle.algebra.specs.CoefficientLists.{poly, Reduced};
+ghost use Rattle.arrays.specs.Represents.{Represents};
+ghost use Rattle.quotients.specs.Remainder.{Remainder};
 ghost use Rattle.modp_element.specs.Images.{PowerImages};
 ghost use Rattle.modp_element.specs.Elements.{ElementFound, Known, ForFactor};
 use arrays::Coefs;
+use arrays::monomial;
 use arrays::size;
 use modp_dependency::Found;
 use modp_dependency::Image;
 use modp_dependency::least_dependency;
 use modular::add_multiple;
+use quotients::power;
+use quotients::product_modulo;
 use quotients::remainder;
 use quotients::times_power_of_x;
 
@@ -22,21 +29,58 @@ pub struct Element {
     pub v: Coefs,
 }
 
-// x^(p·i) - x^i modulo q for i below d: the images of the x^i under the map that takes v to v^p - v. p - 1 stands for minus one.
+// Below this prime powers of x come quicker by shifts than by products.
+const SHIFTS_BELOW: u16 = 33;
+
+// x^p modulo q.
+fn power_of_x(q: Coefs, d: usize, p: u16) -> Coefs
+    requires { ⌜ (1 < p) × (1 < d) × (d < 33) × Monic d (poly p q) × Reduced p 33 q ⌝ }
+    ensures { λ r. ⌜ Remainder p q d r (x^ p) ⌝ }
+{
+    if p < SHIFTS_BELOW {
+        return times_power_of_x(p as usize, monomial(0), q, d, p);
+    }
+    power(monomial(1), p, q, d, p)
+}
+
+// x^p·a modulo q, where y is x^p modulo q.
+fn next_power(a: Coefs, y: Coefs, q: Coefs, d: usize, p: u16) -> Coefs
+    requires { ⌜ (d < 33) × Reduced p 33 a × Below d (poly p a) × Remainder p q d y (x^ p) × Monic d (poly p q) × Reduced p 33 q ⌝ }
+    ensures { λ r. ⌜ Remainder p q d r (x^ p · poly p a) ⌝ }
+{
+    if p < SHIFTS_BELOW {
+        return times_power_of_x(p as usize, a, q, d, p);
+    }
+    product_modulo(a, y, q, d, p)
+}
+
+// a - x^i. p - 1 stands for minus one.
+fn less_power(a: Coefs, i: usize, p: u16) -> Image
+    requires { ⌜ (1 < p) × (i < 33) × Reduced p 33 a ⌝ }
+    ensures { λ r. ⌜ Represents p (r .coefs) (poly p a +ᴿ -ᴿ x^ i) ⌝ }
+{
+    let mut unit = [0u16; 33];
+    unit[0] = 1;
+    let m = add_multiple(a, p - 1, unit, i, 1, p);
+    Image { coefs: m }
+}
+
+// x^(p·i) - x^i modulo q for i below d: the images of the x^i under the map that takes v to v^p - v. That of 1 is 0.
 fn images(q: Coefs, d: usize, p: u16) -> [Image; 33]
     requires { ⌜ (1 < p) × (0 < d) × (d < 33) × Monic d (poly p q) × Reduced p 33 q ⌝ }
     ensures { λ r. ⌜ PowerImages p q d d r ⌝ }
 {
     let none = Image { coefs: [0u16; 33] };
     let mut r = [none; 33];
-    let mut unit = [0u16; 33];
-    unit[0] = 1;
-    let mut power = unit;
-    let mut i: usize = 0;
+    if d < 2 {
+        return r;
+    }
+    let y = power_of_x(q, d, p);
+    let mut power = y;
+    let mut i: usize = 1;
     while i < d {
-        let m = add_multiple(power, p - 1, unit, i, 1, p);
-        r[i] = Image { coefs: m };
-        let v = times_power_of_x(p as usize, power, q, d, p);
+        r[i] = less_power(power, i, p);
+        let v = next_power(power, y, q, d, p);
         power = v;
         i += 1;
     }

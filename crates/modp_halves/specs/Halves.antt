@@ -55,6 +55,14 @@ less-constant p c v r pos l h = record {
       ∙ ap (λ a. poly p v +ᴿ -ᴿ a) (mul-one (𝓩[x]/ p) (constant (residue p c)));
 }
 
+-- the gcd is the one that Bézout finds
+pub gcd-of-bezout : {p : ℕ} (P : Prime p) {w q g : List ℕ} {d e : ℕ} → GcdOf p w q d g e
+    → (z : MonicBezout (residue-field p P) (poly p q) (poly p w)) → z .combined .gcd ≡ poly p g
+gcd-of-bezout {p} P hg z =
+    monic-antisym (residue-nontrivial (P .large)) (z .monic) (hg .monic) (hg .greatest (z .combined .gcd) (z .combined .right) (z .combined .left))
+    (rw (← z .combined .combination)
+    (divides-add (𝓩[x]/ p) (divides-mul (𝓩[x]/ p) (z .combined .u) (hg .right)) (divides-mul (𝓩[x]/ p) (z .combined .v) (hg .left))))
+
 module _ {p : ℕ} {q v : List ℕ} {d : ℕ} (S : Halvable p q d v) where
   abbrev 𝓑 : CommRing (ℤ[x]/ p)
   𝓑 = 𝓩[x]/ p
@@ -66,7 +74,7 @@ module _ {p : ℕ} {q v : List ℕ} {d : ℕ} (S : Halvable p q d v) where
   abbrev pub less : ℕ → ℤ[x]/ p
   less c = poly p v +ᴿ -ᴿ constant (residue p c)
 
-  positive : 1 ≤ d
+  pub positive : 1 ≤ d
   positive =
       pos-of-ne-zero (λ e. S .splits .nonconstant ((Residues p) .𝟘)
       (below-zero (rw e at (S .splits .small)) ∙ sym (constant-zero (Residues p))))
@@ -79,12 +87,8 @@ module _ {p : ℕ} {q v : List ℕ} {d : ℕ} (S : Halvable p q d v) where
   CoprimeTo c = (z : MonicBezout (residue-field p (S .prime)) (poly p q) (less c)) → z .combined .gcd ≡ 𝟏
 
   module _ (c : ℕ) {w g : List ℕ} {e : ℕ} (hw : Represents p w (less c)) (hg : GcdOf p w q d g e) where
-    -- g is the gcd that Bézout finds
     same-gcd : (z : MonicBezout (residue-field p (S .prime)) (poly p q) (less c)) → z .combined .gcd ≡ poly p g
-    same-gcd z =
-        monic-antisym nontrivial (z .monic) (hg .monic) (hg .greatest (z .combined .gcd) (rw (hw .is) (z .combined .right)) (z .combined .left))
-        (rw (← z .combined .combination)
-        (divides-add 𝓑 (divides-mul 𝓑 (z .combined .u) (hg .right)) (divides-mul 𝓑 (z .combined .v) (rw (hw .is) at (hg .left)))))
+    same-gcd = subst (λ r. (z : MonicBezout (residue-field p (S .prime)) (poly p q) r) → z .combined .gcd ≡ poly p g) (hw .is) (gcd-of-bezout (S .prime) hg)
 
     not-one : 0 < e → poly p g ≢ 𝟏
     not-one l k = omega (arith, monic-degree nontrivial (hg .monic) (subst (Monic 0) (sym k) monic-one))

@@ -121,14 +121,14 @@ pub fn last_factor(g: Coefs, d: usize, k: usize, w: Coefs, p: u16) -> Coefs
     lifted(q, w, k * d, p)
 }
 
-// "Choose u such that ū = (m̄)^−1·w̄", where p does not divide m and w is of lower degree than G. The table has inverses modulo p²; modulo p they serve too.
+// "Choose u such that ū = (m̄)^−1·w̄", where p does not divide m and w is of lower degree than G. m may be above p: the table is asked for what it leaves.
 pub fn divided_by_exponent(w: Coefs, d: usize, m: usize, p: u16) -> Coefs
     requires { ⌜ WOver p d m w × (m % p ≢ 0) × Below d (poly p w) ⌝ }
     ensures { λ r. ⌜ ((W : WOver p d m w) → IsU p (W .base) (W .g) d m (W .part) r) ⌝ }
 {
-    let a = reduce(p, m as u64);
+    let a = reduce(p, m as u64) as u8;
     let c = inverse(p as u8, a);
-    multiple(reduce(p, c as u64), w, d, p)
+    multiple(c as u16, w, d, p)
 }
 
 // "g + pu", and "g^(m−m1) + pw": q + p·t modulo p², where t has s terms.

@@ -7,17 +7,14 @@ use Prim.Native.Nat.{ℕ, suc, _+_, _-_, _≤_, _<_}
 use native.Mathlib.Omega.{arith}
 use lib.ListN.{length, getD, set, length-set}
 use Rattle.specification.specs.Polynomials as spec
-use Rattle.algebra.specs.TakenPrimes.{is-prime}
 use Rattle.algebra.specs.CoefficientLists.{poly}
 use Rattle.arrays.specs.Represents.{Represents}
 use Rattle.arrays.specs.Listed.{listed}
 use Rattle.arrays.specs.Held.{MonicModSquare}
 use Rattle.lists.specs.Members.{All}
-use Rattle.frobenius.specs.Unsplit.{Unsplit}
-use Rattle.frobenius.specs.PrimaryPowers.{unsplit-power}
-use Rattle.items.specs.Reductions.{bar-monic}
-use Rattle.modp_element.specs.declared.Element.{Element}
-use Rattle.modp_element.specs.Elements.{Known}
+use Rattle.frobenius.specs.PrimaryPowers.{PrimaryPower}
+use Rattle.part_cut.specs.declared.Radical.{Radical}
+use Rattle.part_cut.specs.Radicals.{RadicalOf}
 use Rattle.part_cut.specs.Cut.{TwoFactors}
 use Rattle.part_values.specs.Primary.{PrimaryArray, is-primary}
 use Rattle.part_verdict.specs.declared.Part.{Part}
@@ -32,7 +29,7 @@ use Rattle.parts.specs.Pieces.{State, PartsOf, work}
 
 -- what is read past an array's end
 abbrev pub noPiece : Piece
-noPiece = record { coefs = []; degree = 0; element = record { known = false; v = [] } }
+noPiece = record { coefs = []; degree = 0; radical = record { coefs = []; degree = 0; element = record { known = false; v = [] } } }
 
 -- the state of the splitting of f, in the loop's variables
 pub record Cutting (p : ℕ) (f : spec.Poly) (pieces : List Piece) (count : ℕ) (parts : Parts) : Type 0 where
@@ -41,10 +38,8 @@ pub record Cutting (p : ℕ) (f : spec.Poly) (pieces : List Piece) (count : ℕ)
   pub state : State p f parts (stack noPiece pieces count)
 
 -- a piece that is not cut is primary
-pub primary-piece : {p d : ℕ} {a q : List ℕ} → MonicModSquare p a d → Represents p q (poly p a) → Unsplit p d (poly p a) → PrimaryArray p a q d
-primary-piece {p} {a = a} m b u =
-    let P = is-prime (m .prime) in
-    record { monic = m; bar = b; primary = is-primary m (unsplit-power P (m .positive) (bar-monic p (P .large) a (m .array .monic)) u) }
+pub primary-piece : {p d : ℕ} {a q : List ℕ} → MonicModSquare p a d → Represents p q (poly p a) → PrimaryPower (poly p a) → PrimaryArray p a q d
+primary-piece m b s = record { monic = m; bar = b; primary = is-primary m s }
 
 -- what is left to do
 abbrev pub left : List Piece → ℕ → ℕ
@@ -72,8 +67,8 @@ module _ {p : ℕ} {f : spec.Poly} {pieces : List Piece} {count : ℕ} {parts : 
   pub top : MonicModSquare p (x .coefs) (x .degree)
   top = state.top p f parts x rest opened
 
-  pub top-element : Known p (x .degree) (poly p (x .coefs)) (x .element)
-  top-element = state.top-element p f parts x rest opened
+  pub top-radical : RadicalOf p (poly p (x .coefs)) (x .radical)
+  top-radical = state.top-radical p f parts x rest opened
 
   pub part-room : parts .count < 32
   part-room = state.part-room p f parts x rest opened
@@ -84,29 +79,29 @@ module _ {p : ℕ} {f : spec.Poly} {pieces : List Piece} {count : ℕ} {parts : 
   pub piece-room : {a b : List ℕ} {i : ℕ} → TwoFactors p (x .coefs) (x .degree) a i b → count < 32
   piece-room {a} {b} {i} t = omega (arith, state.piece-room p f parts x rest opened a b i t, stack-length noPiece pieces (count - 1))
 
-  module _ {a b : List ℕ} {i : ℕ} (none more : Element) (t : TwoFactors p (x .coefs) (x .degree) a i b) where
-    abbrev upper : Piece
-    upper = record { coefs = a; degree = i; element = none }
+  module _ {a b : List ℕ} {i : ℕ} (former latter : Radical) (t : TwoFactors p (x .coefs) (x .degree) a i b) where
+    abbrev first : Piece
+    first = record { coefs = a; degree = i; radical = former }
 
-    abbrev lower : Piece
-    lower = record { coefs = b; degree = x .degree - i; element = more }
+    abbrev second : Piece
+    second = record { coefs = b; degree = x .degree - i; radical = latter }
 
     -- the array where the top piece is cut in two
     abbrev after : List Piece
-    after = set (set pieces (count - 1) lower) count upper
+    after = set (set pieces (count - 1) second) count first
 
-    two : stack noPiece after (count + 1) ≡ upper ∷ lower ∷ rest
-    two = stack-two noPiece pieces upper lower count l (omega (arith, w .long, piece-room t))
+    two : stack noPiece after (count + 1) ≡ first ∷ second ∷ rest
+    two = stack-two noPiece pieces first second count l (omega (arith, w .long, piece-room t))
 
-    pub cutting-on : none .known ≡ false → Known p (x .degree - i) (poly p b) more → Cutting p f after (count + 1) parts
-    cutting-on z k = record {
+    pub cutting-on : RadicalOf p (poly p a) former → RadicalOf p (poly p b) latter → Cutting p f after (count + 1) parts
+    cutting-on U L = record {
       few = omega (arith, piece-room t);
       long = length-set (set pieces (count - 1) _) count _ ∙ length-set pieces (count - 1) _ ∙ w .long;
-      state = subst (State p f parts) (sym two) (state.state-cut p f parts x rest opened a b i none more t z k);
+      state = subst (State p f parts) (sym two) (state.state-cut p f parts x rest opened a b i former latter t U L);
     }
 
     pub cut-less : left after (count + 1) < left pieces count
-    cut-less = rw (two, whole) (state.cut-works p f parts x rest opened a b i none more t)
+    cut-less = rw (two, whole) (state.cut-works p f parts x rest opened a b i former latter t)
 
   pub cutting-found : {r : Parts} {part : Part} → PartFound p (x .coefs) (x .degree) part → r .count ≡ suc (parts .count)
       → Inserted PartBefore part (held parts) (held r) → Cutting p f pieces (count - 1) r

@@ -1,8 +1,7 @@
 -- The state of the splitting of f: the parts that are found, and a stack of pieces. `work` measures what is left to do.
 -- Proves how the state begins, that it goes on with less work where the top piece is cut and where it is found to be a part, and what it says at the end.
 -- Assumes nothing.
-use mathlib.Core.Path.{_≡_, refl, sym, _∙_, subst}
-use mathlib.Core.Bool.{false, false≢true}
+use mathlib.Core.Path.{_≡_, refl, sym, subst}
 use mathlib.Core.List.{List, [], _∷_, map}
 use mathlib.Core.List.{List·Memᴰ·head as here}
 use Prim.Native.Nat.{ℕ, suc, _+_, _-_, _≤_, _<_, _*_}
@@ -11,12 +10,12 @@ use lib.ListN.{length, take}
 use Rattle.specification.specs.Polynomials as spec
 use Rattle.specification.specs.Parts as specification
 use Rattle.algebra.specs.Fields.{Prime}
-use Rattle.algebra.specs.CoefficientLists.{ℤ[x]/, poly}
+use Rattle.algebra.specs.CoefficientLists.{poly}
 use Rattle.lists.specs.Members.{All, all-cons, all-tail}
 use Rattle.items.specs.MonicLists.{to-claimed}
 use Rattle.items.specs.ArrayLists.{square-list}
-use Rattle.modp_element.specs.declared.Element.{Element}
-use Rattle.modp_element.specs.Elements.{Known}
+use Rattle.part_cut.specs.declared.Radical.{Radical}
+use Rattle.part_cut.specs.Radicals.{RadicalOf}
 use Rattle.part_cut.specs.Cut.{TwoFactors}
 use Rattle.algebra.specs.TakenPrimes.{is-prime}
 use Rattle.arrays.specs.Listed.{listed}
@@ -51,10 +50,10 @@ pub record PartsOf (p : ℕ) (f : List ℕ) (d : ℕ) (r : Parts) : Type 0 where
   pub few : r .count ≤ 32
   pub arrays : All (PartHeld p) (held r)
 
--- a piece is monic, and its element, if it is known, splits its bar
+-- a piece is monic, and has a radical of its bar
 pub record PieceHeld (p : ℕ) (a : Piece) : Type 0 where
   pub monic : MonicModSquare p (a .coefs) (a .degree)
-  pub element : Known p (a .degree) (poly p (a .coefs)) (a .element)
+  pub radical : RadicalOf p (poly p (a .coefs)) (a .radical)
 
 pub record State (p : ℕ) (f : spec.Poly) (parts : Parts) (S : List Piece) : Type 0 where
   pub prime : Prime p
@@ -63,17 +62,13 @@ pub record State (p : ℕ) (f : spec.Poly) (parts : Parts) (S : List Piece) : Ty
   pub room : parts .count + weight S ≤ 32
   pub arrays : All (PartHeld p) (held parts)
 
--- nothing is claimed of an element that is not known
-not-known : {p d : ℕ} (Q : ℤ[x]/ p) {e : Element} → e .known ≡ false → Known p d Q e
-not-known Q z = record { reduced = λ y. absurd (false≢true (sym z ∙ y)); splits = λ y. absurd (false≢true (sym z ∙ y)) }
-
-pub state-start : (p : ℕ) (f : List ℕ) (d : ℕ) (e : Element) (parts : Parts) → MonicModSquare p f d → e .known ≡ false → parts .count ≡ 0
-    → State p (listed d f) parts (record { coefs = f; degree = d; element = e } ∷ [])
+pub state-start : (p : ℕ) (f : List ℕ) (d : ℕ) (r : Radical) (parts : Parts) → MonicModSquare p f d → RadicalOf p (poly p f) r → parts .count ≡ 0
+    → State p (listed d f) parts (record { coefs = f; degree = d; radical = r } ∷ [])
 unfolding weight
-state-start p f d none parts m z e = record {
+state-start p f d r parts m R e = record {
   prime = is-prime (m .prime);
   holding = holding-start p (is-prime (m .prime)) (listed d f) parts e (to-claimed (m .positive) (square-list m));
-  pieces = all-cons (record { monic = m; element = not-known (poly p f) z }) (λ a i. elim i [ ]);
+  pieces = all-cons (record { monic = m; radical = R }) (λ a i. elim i [ ]);
   room = omega (arith, e, m .array .fits);
   arrays = subst (λ k. All (PartHeld p) (take k (parts .parts))) (sym e) (λ x i. elim i [ ]);
 }
@@ -95,8 +90,8 @@ module _ (p : ℕ) (f : spec.Poly) (parts : Parts) (x : Piece) (S : List Piece) 
   pub top : MonicModSquare p (x .coefs) (x .degree)
   top = w .pieces x (here refl) .monic
 
-  pub top-element : Known p (x .degree) (poly p (x .coefs)) (x .element)
-  top-element = w .pieces x (here refl) .element
+  pub top-radical : RadicalOf p (poly p (x .coefs)) (x .radical)
+  top-radical = w .pieces x (here refl) .radical
 
   rest-weighs : length S ≤ weight S
   rest-weighs = pieces-weigh p S (all-tail (w .pieces))
@@ -114,8 +109,7 @@ module _ (p : ℕ) (f : spec.Poly) (parts : Parts) (x : Piece) (S : List Piece) 
   unfolding weight
   piece-room a b i t = omega (arith, w .room, t .positive, t .less, rest-weighs)
 
-  -- the element of the first is not known
-  module _ (a b : List ℕ) (i : ℕ) (none rest : Element) (t : TwoFactors p (x .coefs) (x .degree) a i b) where
+  module _ (a b : List ℕ) (i : ℕ) (former latter : Radical) (t : TwoFactors p (x .coefs) (x .degree) a i b) where
     first : MonicModSquare p a i
     first = record { prime = top .prime; positive = t .positive; array = t .first }
 
@@ -123,15 +117,15 @@ module _ (p : ℕ) (f : spec.Poly) (parts : Parts) (x : Piece) (S : List Piece) 
     second = record { prime = top .prime; positive = omega (arith, t .less); array = t .second }
 
     abbrev after : List Piece
-    after = record { coefs = a; degree = i; element = none } ∷ record { coefs = b; degree = x .degree - i; element = rest } ∷ S
+    after = record { coefs = a; degree = i; radical = former } ∷ record { coefs = b; degree = x .degree - i; radical = latter } ∷ S
 
-    pub state-cut : none .known ≡ false → Known p (x .degree - i) (poly p b) rest → State p f parts after
+    pub state-cut : RadicalOf p (poly p a) former → RadicalOf p (poly p b) latter → State p f parts after
     unfolding weight
-    state-cut z k = record {
+    state-cut U L = record {
       prime = w .prime;
       holding = holding-cut p (w .prime) f parts (x .coefs) a b (x .degree) i (map pieceList S) (w .holding) (t .positive) (t .less) (top .array)
           (t .first) (t .second) (t .coprime) (t .multiplies);
-      pieces = all-cons (record { monic = first; element = not-known (poly p a) z }) (all-cons (record { monic = second; element = k }) (all-tail (w .pieces)));
+      pieces = all-cons (record { monic = first; radical = U }) (all-cons (record { monic = second; radical = L }) (all-tail (w .pieces)));
       room = omega (arith, w .room, t .less);
       arrays = w .arrays;
     }

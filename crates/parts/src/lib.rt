@@ -1,16 +1,16 @@
 // All parts of a monic f modulo p², in the order of item 3: a stack of pieces, each cut in two or found to be a part.
 // What is public is so for the crates above, and no entry point of the library.
 ghost use mathlib.Core.Path.{_≡_};
-ghost use mathlib.Core.Bool.{false};
 ghost use Rattle.algebra.specs.CoefficientLists.{poly};
 ghost use Rattle.arrays.specs.Held.{MonicModSquare};
-ghost use Rattle.frobenius.specs.Unsplit.{Unsplit};
+ghost use Rattle.frobenius.specs.PrimaryPowers.{PrimaryPower};
 ghost use Rattle.part_verdict.specs.PartFound.{PartFound};
 ghost use Rattle.parts.specs.Pieces.{PartsOf};
 use arrays::Coefs;
-use modp_element::Element;
+use part_cut::Radical;
 use part_cut::bar;
 use part_cut::cut_in_two;
+use part_cut::radical_of;
 use part_list::Parts;
 use part_list::insert;
 use part_verdict::Factor;
@@ -18,21 +18,11 @@ use part_verdict::Part;
 use part_verdict::Verdict;
 use part_verdict::split_part;
 
-// A monic polynomial modulo p², its degree, and a splitting element of its bar, if one is known.
+// A monic polynomial modulo p², its degree, and a radical of its bar.
 struct Piece {
     coefs: Coefs,
     degree: usize,
-    element: Element,
-}
-
-// No splitting element is known.
-fn unknown() -> Element
-    ensures { λ r. ⌜ r .known ≡ false ⌝ }
-{
-    Element {
-        known: false,
-        v: [0u16; 33],
-    }
+    radical: Radical,
 }
 
 // No parts. What stands past the count means nothing, so the contract says nothing of it.
@@ -62,7 +52,7 @@ fn no_parts() -> Parts
 
 // The part that f is, of degree d, where it is not cut: its bar is then a power of one irreducible polynomial.
 fn part_of(f: Coefs, d: usize, p: u16) -> Part
-    requires { ⌜ MonicModSquare p f d × Unsplit p d (poly p f) ⌝ }
+    requires { ⌜ MonicModSquare p f d × PrimaryPower (poly p f) ⌝ }
     ensures { λ r. ⌜ PartFound p f d r ⌝ }
 {
     let q = bar(f, d, p);
@@ -74,11 +64,11 @@ pub fn parts_of(f: Coefs, d: usize, p: u16) -> Parts
     requires { ⌜ MonicModSquare p f d ⌝ }
     ensures { λ r. ⌜ PartsOf p f d r ⌝ }
 {
-    let none = unknown();
+    let radical = radical_of(f, d, p);
     let whole = Piece {
         coefs: f,
         degree: d,
-        element: none,
+        radical: radical,
     };
     let mut pieces = [whole; 32];
     let mut count: usize = 1;
@@ -86,24 +76,25 @@ pub fn parts_of(f: Coefs, d: usize, p: u16) -> Parts
     while 0 < count {
         let piece = pieces[count - 1];
         let q = piece.coefs;
-        let element = piece.element;
-        let c = cut_in_two(q, piece.degree, element, p);
+        let r = piece.radical;
+        let c = cut_in_two(q, piece.degree, r, p);
         if c.cut {
             let a = c.first;
             let b = c.second;
-            let rest = c.rest;
-            let lower = Piece {
+            let former = c.former;
+            let latter = c.latter;
+            let second = Piece {
                 coefs: b,
                 degree: piece.degree - c.degree,
-                element: rest,
+                radical: latter,
             };
-            let upper = Piece {
+            let first = Piece {
                 coefs: a,
                 degree: c.degree,
-                element: none,
+                radical: former,
             };
-            pieces[count - 1] = lower;
-            pieces[count] = upper;
+            pieces[count - 1] = second;
+            pieces[count] = first;
             count += 1;
         } else {
             let more = insert(parts, part_of(q, piece.degree, p));

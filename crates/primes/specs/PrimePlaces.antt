@@ -1,9 +1,9 @@
 -- Places in the list of taken primes: `Place p r`, p stands at r, or p is not taken and r is past the list's end.
 -- Proves it of what a search through the list finds, however long the list is. Assumes nothing.
-use mathlib.Core.Path.{_≡_, sym, _∙_, subst}
+use mathlib.Core.Path.{_≡_, sym, _∙_, ap, subst}
 use mathlib.Core.Bool.{true, false, cond}
 use mathlib.Core.List.{List}
-use Prim.Native.Nat.{ℕ, _<_}
+use Prim.Native.Nat.{ℕ, _<_, _≤_}
 use native.Mathlib.Nat.{le-refl}
 use lib.Dec.{T, eqb, ltb, eqb→eq, eqb-refl}
 use lib.ListN.{length, getD, List·getD-eq-default}
@@ -37,3 +37,11 @@ module _ (p : ℕ) where
   place-none h =
       let is = no-member primes h in
       record { entry = rw is (List·getD-eq-default primes 0 (le-refl _)); within = le-ltb (length primes) _ (le-refl _) ∙ sym is }
+
+-- at a place of the list stands the number that was looked for, and it is taken
+pub placed : {p r : ℕ} → Place p r → r < length primes → (taken p ≡ true) × (getD primes r 0 ≡ p)
+placed {p} {r} w l = let t : taken p ≡ true = sym (w .within) ∙ lt-ltb _ _ l in (t, w .entry ∙ ap (λ b. cond b p 0) t)
+
+-- past its end a number that is not taken
+pub not-placed : {p r : ℕ} → Place p r → length primes ≤ r → taken p ≡ false
+not-placed {p} {r} w l = sym (w .within) ∙ le-ltb _ _ l

@@ -1,10 +1,11 @@
-// Arithmetic modulo a monic polynomial q of degree d over ℤ/n, on arrays of 33 coefficients: remainders, multiples by powers of x and products.
-// Each answer is the one remainder of its polynomial by q. What is public is so for the crates above, and no entry point of the library.
+// Arithmetic modulo a monic polynomial q of degree d over ℤ/n, on arrays of 33 coefficients: remainders, multiples by powers of x, products
+// and powers. Each answer is the one remainder of its polynomial by q. What is public is so for the crates above, and no entry point of the library.
 ghost use Prim.Native.Nat.{_<_, _≤_};
 ghost use lib.ListN.{length};
+ghost use Rattle.algebra.specs.Divisibility.{pow};
 ghost use Rattle.algebra.specs.PolynomialRing.{_·_, x};
 ghost use Rattle.algebra.specs.Degree.{Below, Monic};
-ghost use Rattle.algebra.specs.CoefficientLists.{poly, Reduced};
+ghost use Rattle.algebra.specs.CoefficientLists.{poly, Reduced, 𝓩[x]/};
 ghost use Rattle.algebra.specs.Monomials.{x^};
 ghost use Rattle.arrays.specs.Represents.{ZeroFrom};
 ghost use Rattle.quotients.specs.Remainder.{Remainder};
@@ -33,12 +34,12 @@ fn move_up(r: &mut [u16], d: usize)
     r[0] = 0;
 }
 
-// x·r modulo q in place, where r has d terms: one turn of a division.
+// x·r modulo q in place, where r has d terms: one turn of a division. All 32 places move: a fixed number of them takes a machine a few steps.
 pub fn shift(r: &mut [u16], q: &[u16], d: usize, n: u16)
     requires { ⌜ (d < 33) × Reduced n 33 (now r) × Reduced n 33 (now q) × Below d (poly n (now r)) × Monic d (poly n (now q)) ⌝ }
     ensures { λ _. ⌜ Remainder n (now (q .entry)) d (now (r .exit)) (x · poly n (now (r .entry))) ⌝ }
 {
-    move_up(r, d);
+    move_up(r, 32);
     let c = n - r[d];
     modular::add_in_place(r, c, q, d + 1, n)
 }
@@ -70,4 +71,20 @@ pub fn product_modulo(a: Coefs, b: Coefs, q: Coefs, d: usize, n: u16) -> Coefs
         i -= 1;
     }
     r
+}
+
+// a^k modulo q, where a has d terms: the square of the power to k / 2, and once more a where k is odd. The products with a take as many turns as a has terms.
+pub fn power(a: Coefs, k: u16, q: Coefs, d: usize, n: u16) -> Coefs
+    requires { ⌜ (0 < k) × (d < 33) × Reduced n 33 a × Reduced n 33 q × Below d (poly n a) × Monic d (poly n q) ⌝ }
+    ensures { λ r. ⌜ Remainder n q d r (pow (𝓩[x]/ n) (poly n a) k) ⌝ }
+{
+    if k == 1 {
+        return a;
+    }
+    let h = power(a, k / 2, q, d, n);
+    let s = product_modulo(h, h, q, d, n);
+    if k % 2 == 0 {
+        return s;
+    }
+    product_modulo(a, s, q, d, n)
 }

@@ -1,3 +1,3 @@
 pub mod Reciprocals
 pub mod Widths
-pub mod InverseSearch
+pub mod InverseDescent

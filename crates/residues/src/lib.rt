@@ -67,17 +67,16 @@ pub fn add_product(y: u16, c: u16, z: u16, n: u16, w: u64) -> u16
     }
 }
 
-// The inverse of c modulo p, by trial.
+// The inverse of c modulo p, by descent, as in `algebra/Fields`: c·r stays e modulo p, and (p / e)·e is -(p % e).
 pub fn inverse(c: u16, p: u16) -> u16
     requires { ⌜ Prime p × (0 < c) × (c < p) ⌝ }
     ensures { λ r. ⌜ (r < p) × (c * r % p ≡ 1) ⌝ }
 {
-    let mut y: u16 = 1;
-    while y < p {
-        if times(c, y, p) == 1 {
-            return y;
-        }
-        y += 1;
+    let mut r: u16 = 1;
+    let mut e = c;
+    while e != 1 {
+        r = times(r, p - p / e, p);
+        e = p % e;
     }
-    0
+    r
 }

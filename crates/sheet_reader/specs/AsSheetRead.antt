@@ -17,9 +17,9 @@ use Rattle.arrays.specs.Held.{Shaped, inside}
 use Rattle.polynomial.proofs.RecordLaws.{length-pad, getD-pad}
 use Rattle.commands.specs.declared.Sheet.{Sheet}
 use Rattle.commands.specs.AsSheet.{asSheet}
+use Rattle.sheet_steps.specs.declared.Step.{Step}
+use Rattle.sheet_steps.specs.declared.Step.the-variants.{Taken, Fault}
 use Rattle.sheet_reader.specs.declared.SheetRead.{SheetRead}
-use Rattle.sheet_reader.specs.declared.Step.{Step}
-use Rattle.sheet_reader.specs.declared.Step.the-variants.{Taken, Fault}
 
 -- a sheet's struct
 abbrev pub asStruct : spec.Sheet → Sheet

@@ -1,4 +1,3 @@
 pub mod AsSheetRead
-pub mod Steps
 pub mod Underway
 pub mod Stages

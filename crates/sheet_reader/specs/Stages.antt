@@ -9,12 +9,12 @@ use lib.ListN.{length, take, drop, length-drop, drop-of-length-le}
 use lib.Seq.{take-all, drop-cons, drop-drop}
 use Rattle.specification.specs.Reading.{Read, got, Reader, _>>=_, done, withOperand}
 use Rattle.specification.specs.Sheets as spec
-use Rattle.sheet_reader.specs.declared.SheetRead.{SheetRead}
-use Rattle.sheet_reader.specs.declared.Step.{Step}
-use Rattle.sheet_reader.specs.declared.Step.the-variants.{Taken, Fault}
-use Rattle.sheet_reader.specs.AsSheetRead.{sheetRead, refusal}
-use Rattle.sheet_reader.specs.Steps.{asRead, StepAs, StepInside, Left, left-stops}
 use Rattle.layouts.specs.SheetStages.{afterPrime, sheet-stages}
+use Rattle.sheet_steps.specs.declared.Step.{Step}
+use Rattle.sheet_steps.specs.declared.Step.the-variants.{Taken, Fault}
+use Rattle.sheet_steps.specs.Steps.{asRead, StepAs, StepInside, Left, left-stops}
+use Rattle.sheet_reader.specs.declared.SheetRead.{SheetRead}
+use Rattle.sheet_reader.specs.AsSheetRead.{sheetRead, refusal}
 
 -- ---- from stage to stage
 

@@ -18,10 +18,10 @@ use Rattle.layouts.specs.ReaderLaws.{then-goes, next-goes, command-goes, Other}
 use Rattle.layouts.specs.CoefficientsRead.{none-left}
 use Rattle.layouts.specs.SheetStages.{allCoefficients}
 use Rattle.layouts.specs.Operands.{index-within, index-exact}
+use Rattle.sheet_steps.specs.declared.Step.{Step}
+use Rattle.sheet_steps.specs.declared.Step.the-variants.{Taken, Fault}
+use Rattle.sheet_steps.specs.Steps.{readAt, StepAs, StepOf, Comes, step-good, step-fault, Left, left-more, left-stops}
 use Rattle.sheet_reader.specs.declared.Coefficients.{Coefficients}
-use Rattle.sheet_reader.specs.declared.Step.{Step}
-use Rattle.sheet_reader.specs.declared.Step.the-variants.{Taken, Fault}
-use Rattle.sheet_reader.specs.Steps.{readAt, StepAs, StepOf, Comes, step-good, step-fault, Left, left-more, left-stops}
 
 -- what the coefficient reader gives: the polynomial in the array, or the fault
 pub record CoefficientsOf (part : List ℕ) (start p d : ℕ) (r : Coefficients) : Type 0 where

@@ -1,28 +1,27 @@
 // The sheet reader: a sheet's bytes as a prime, a polynomial and what is asked for, or the number and the place of the first fault.
 // `read_sheet` takes any bytes. Each step's answer is a `Step`, and the first fault is handed back as it stands.
 ghost use mathlib.Core.Path.{_≡_};
-ghost use mathlib.Core.List.{[], _∷_};
 ghost use Prim.Native.Nat.{_+_, _<_, _≤_, _^_};
 ghost use lib.ListN.{length};
-ghost use Rattle.specification.specs.Limits.{_²};
-ghost use Rattle.specification.specs.Reading.{byte, commandByte, withOperand};
-ghost use Rattle.specification.specs.Coefficients.{indexOperand, valueOperand};
-ghost use Rattle.specification.specs.RunLength.{hasRun};
-ghost use Rattle.specification.specs.Sheets.{primeOperand, degreeOperand, whole, readSheet};
+ghost use Rattle.specification.specs.Sheets.{whole, readSheet};
 ghost use Rattle.arrays.specs.Held.{Shaped};
 ghost use Rattle.layouts.specs.SheetStages.{onlyEnd};
 ghost use Rattle.commands.specs.AsSheet.{asSheet};
+ghost use Rattle.sheet_steps.specs.Steps.{readAt};
 ghost use Rattle.sheet_reader.specs.AsSheetRead.{sheetRead, refusal};
-ghost use Rattle.sheet_reader.specs.Steps.{readAt, StepOf, Comes, FlagOf};
 ghost use Rattle.sheet_reader.specs.Underway.{CoefficientsOf};
 use arrays::Coefs;
 use arrays::monomial;
 use commands::Sheet;
 use commands::coefficient_code;
-use commands::has_run;
-use polynomial::Poly;
-use polynomial::square;
-use primes::taken;
+use sheet_steps::Step;
+use sheet_steps::comes;
+use sheet_steps::command_at;
+use sheet_steps::degree_at;
+use sheet_steps::index_at;
+use sheet_steps::prime_at;
+use sheet_steps::run_at;
+use sheet_steps::value_at;
 
 // What a sheet is read as: number 0 and place 0 with what it says, or a fault with the zero polynomial of prime 2.
 pub struct SheetRead {
@@ -31,147 +30,10 @@ pub struct SheetRead {
     pub sheet: Sheet,
 }
 
-// A value that is taken and the place after it in the part that is read, or the fault that ends the reading, with its place in the sheet.
-enum Step {
-    Taken(u16, usize),
-    Fault { number: u8, place: usize },
-}
-
 // A polynomial's coefficients beside the step that ends them, whose number means nothing.
 struct Coefficients {
     step: Step,
     coefs: Coefs,
-}
-
-// The byte at a place of a part that begins at the sheet's place `start`; 2: the sheet ends there.
-fn byte_at(part: &[u8], start: usize, at: usize) -> Step
-    requires { ⌜ (start + length (now part) < 2 ^ 64) × (at ≤ length (now part)) ⌝ }
-    ensures { λ r. ⌜ StepOf byte 256 (now (part .entry)) start at r ⌝ }
-{
-    if at < part.len() {
-        Step::Taken(part[at] as u16, at + 1)
-    } else {
-        Step::Fault {
-            number: 2,
-            place: start + at,
-        }
-    }
-}
-
-// A command; 3: another byte.
-fn command_at(part: &[u8], start: usize, at: usize, code: u8) -> Step
-    requires { ⌜ (start + length (now part) < 2 ^ 64) × (at ≤ length (now part)) ⌝ }
-    ensures { λ r. ⌜ StepOf (commandByte code) 256 (now (part .entry)) start at r ⌝ }
-{
-    let step = byte_at(part, start, at);
-    let Step::Taken(command, _) = step else {
-        return step;
-    };
-    if command == code as u16 {
-        return step;
-    }
-    Step::Fault {
-        number: 3,
-        place: start + at,
-    }
-}
-
-// 0x01 with the prime; 4: the prime is not taken.
-fn prime_at(sheet: &[u8], at: usize) -> Step
-    requires { ⌜ at ≤ length (now sheet) ⌝ }
-    ensures { λ r. ⌜ StepOf (withOperand 0x01 primeOperand) 256 (now (sheet .entry)) 0 at r ⌝ }
-{
-    let first = command_at(sheet, 0, at, 0x01);
-    let Step::Taken(_, next) = first else {
-        return first;
-    };
-    let second = byte_at(sheet, 0, next);
-    let Step::Taken(prime, _) = second else {
-        return second;
-    };
-    if taken(prime as u8) {
-        return second;
-    }
-    Step::Fault {
-        number: 4,
-        place: next,
-    }
-}
-
-// 0x02 with the degree; 5: the degree is 0 or past the limit.
-fn degree_at(sheet: &[u8], at: usize) -> Step
-    requires { ⌜ at ≤ length (now sheet) ⌝ }
-    ensures { λ r. ⌜ StepOf (withOperand 0x02 degreeOperand) 33 (now (sheet .entry)) 0 at r ⌝ }
-{
-    let first = command_at(sheet, 0, at, 0x02);
-    let Step::Taken(_, next) = first else {
-        return first;
-    };
-    let second = byte_at(sheet, 0, next);
-    let Step::Taken(degree, _) = second else {
-        return second;
-    };
-    if 0 < degree {
-        if degree as usize <= Poly::LIMIT {
-            return second;
-        }
-    }
-    Step::Fault {
-        number: 5,
-        place: next,
-    }
-}
-
-// The index of a coefficient; 6: not below the degree, or below the least that may follow.
-fn index_at(part: &[u8], start: usize, at: usize, least: u16, degree: u16) -> Step
-    requires { ⌜ (start + length (now part) < 2 ^ 64) × (at ≤ length (now part)) ⌝ }
-    ensures { λ r. ⌜ StepOf (indexOperand degree least) degree (now (part .entry)) start at r ⌝ }
-{
-    let step = byte_at(part, start, at);
-    let Step::Taken(index, _) = step else {
-        return step;
-    };
-    if index < degree {
-        if least <= index {
-            return step;
-        }
-    }
-    Step::Fault {
-        number: 6,
-        place: start + at,
-    }
-}
-
-// The value of a coefficient; 7: 0, or the modulus p² or more.
-fn value_at(part: &[u8], start: usize, at: usize, prime: u8) -> Step
-    requires { ⌜ (start + length (now part) < 2 ^ 64) × (at ≤ length (now part)) ⌝ }
-    ensures { λ r. ⌜ StepOf (valueOperand prime) (prime ²) (now (part .entry)) start at r ⌝ }
-{
-    let modulus = square(prime);
-    let step = byte_at(part, start, at);
-    let Step::Taken(value, _) = step else {
-        return step;
-    };
-    if 0 < value {
-        if value < modulus {
-            return step;
-        }
-    }
-    Step::Fault {
-        number: 7,
-        place: start + at,
-    }
-}
-
-// Whether a command comes next; looking at its byte takes nothing.
-fn comes(part: &[u8], at: usize, code: u8) -> bool
-    ensures { λ r. ⌜ Comes code (now (part .entry)) at r ⌝ }
-{
-    if at < part.len() {
-        part[at] == code
-    } else {
-        false
-    }
 }
 
 // The coefficient reader: the part of a sheet from its first coefficient command on.
@@ -206,24 +68,6 @@ fn read_coefficients(part: &[u8], start: usize, prime: u8, degree: u16) -> Coeff
         step: Step::Taken(0, at),
         coefs: coefs,
     }
-}
-
-// Whether 0x04 comes, as 1 or 0: the run length is asked for; 14: p divides the constant coefficient.
-fn run_at(sheet: &[u8], at: usize, prime: u8, constant: u16) -> Step
-    requires { ⌜ (at ≤ length (now sheet)) × (0 < prime) ⌝ }
-    ensures { λ r. ⌜ FlagOf 0x04 14 (hasRun prime (constant ∷ [])) (now (sheet .entry)) 0 at r ⌝ }
-{
-    if comes(sheet, at, 0x04) {
-        let next = at + 1;
-        if has_run(prime, constant) {
-            return Step::Taken(1, next);
-        }
-        return Step::Fault {
-            number: 14,
-            place: at,
-        };
-    }
-    Step::Taken(0, at)
 }
 
 // The number and the place of a step with the zero polynomial of prime 2; where a value is taken they are 0.

@@ -16,13 +16,18 @@ use area::put_two;
 use arrays::Coefs;
 use commands::Sheet;
 use commands::coefficient_code;
+use commands::wide;
 
-// A coefficient's value, as wide as the prime p has it.
+// A coefficient's value, as wide as the prime p has it, low byte first.
 fn write_value(out: &mut [u8], at: usize, p: u8, v: u16) -> usize
     requires { ⌜ Room (now out) at (valueBytes p v) ⌝ }
     ensures { λ r. ⌜ Wrote (now (out .entry)) (now (out .exit)) at (valueBytes p v) r ⌝ }
 {
-    put(out, at, v as u8)
+    if wide(p) {
+        put_two(out, at, (v % 256) as u8, (v / 256) as u8)
+    } else {
+        put(out, at, v as u8)
+    }
 }
 
 // The command of the i-th coefficient, unless it is 0.

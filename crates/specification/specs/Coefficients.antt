@@ -1,36 +1,37 @@
--- Coefficients: 0x03 i v, "coefficient of the i-th power is v", written and read, with the numbers 6 and 7.
--- How wide a coefficient's value is, and under which code it stands, is said here and in the row of the table of commands.
+-- Coefficients: 0x03 i v and 0x05 i v v, "coefficient of the i-th power is v", written and read, with the numbers 6 and 7.
+-- How wide a coefficient's value is, and under which code it stands, is said here and in the two rows of the table of commands; from which prime on it has
+-- two bytes, in `Limits.wide`.
 use Prim.Native.Nat.{ℕ, zero, suc}
-use mathlib.Core.Bool.{Bool, _&&_}
+use mathlib.Core.Bool.{Bool, cond, _&&_, _||_}
 use mathlib.Core.List.{List, [], _∷_}
-use lib.ListN.{getD, set, drop}
+use lib.ListN.{set, drop}
 use lib.Dec.{eqb, ltb, leb}
 use Rattle.specification.specs.Polynomials.{Poly, degree}
-use Rattle.specification.specs.Commands.{Command, command, operand}
-use Rattle.specification.specs.Reading.{Reader, done, _>>=_, _>>_, judged, onNext, byte, commandByte}
-use Rattle.specification.specs.Limits.{_²}
+use Rattle.specification.specs.Commands.{Command, command, operand, twoBytes, fromTwoBytes}
+use Rattle.specification.specs.Reading.{Reader, done, _>>=_, _>>_, judged, onNext, byte, twoByteNumber, commandByte}
+use Rattle.specification.specs.Limits.{wide, _²}
 
 -- ---- the code and the width
 
--- the command that gives a coefficient, for the prime p
+-- the command that gives a coefficient, for the prime p: "Command 0x05 .. replaces 0x03 for primes from 17 up"
 abbrev pub coefficientCode : ℕ → ℕ
-coefficientCode p = 0x03
+coefficientCode p = cond (wide p) 0x05 0x03
 
 -- a command gives a coefficient, of whatever prime
 abbrev pub isCoefficient : Command → Bool
-isCoefficient c = eqb (c .code) 0x03
+isCoefficient c = eqb (c .code) 0x03 || eqb (c .code) 0x05
 
--- a value as operands, for the prime p
+-- a value as operands, for the prime p: one byte, or "a value of two bytes, low byte first"
 abbrev pub valueBytes : ℕ → ℕ → List ℕ
-valueBytes p v = v ∷ []
+valueBytes p v = cond (wide p) (twoBytes v) (v ∷ [])
 
--- the value that operands give
+-- the value that operands give, one or two
 abbrev pub valueOf : List ℕ → ℕ
-valueOf operands = getD operands 0 0
+valueOf operands = fromTwoBytes operands
 
 -- a value read, for the prime p
 abbrev pub value : ℕ → Reader ℕ
-value p = byte
+value p = cond (wide p) (twoByteNumber 7) byte
 
 -- ---- written
 
@@ -69,11 +70,11 @@ indexOperand d least = judged 6 (indexTaken d least) byte
 abbrev pub valueTaken : ℕ → ℕ → Bool
 valueTaken p v = ltb 0 v && ltb v (p ²)
 
--- 7: "A coefficient's value is 0, or p² or more"
+-- 7: "A coefficient's value is 0, or p² or more"; "judged once both bytes are there, at the place of its first"
 abbrev pub valueOperand : ℕ → Reader ℕ
 valueOperand p = judged 7 (valueTaken p) (value p)
 
--- "any number of 0x03", each of which sets a coefficient of f; the next index is `least` or more
+-- "any number of 0x03", or of 0x05, each of which sets a coefficient of f; the next index is `least` or more
 -- (a definition must end: indices rise below the degree, so a room above it never decides)
 unfoldable pub coefficients : (room p least : ℕ) (f : Poly) → Reader Poly
 coefficients zero p least f = done f

@@ -1,7 +1,8 @@
--- The edges of document 01 and of run lengths, with a row at least for each of the numbers 1 to 9 and 14, as one table with one theorem.
+-- The edges of document 01, of run lengths and of the primes from 11 up, with a row at least for each of the numbers 1 to 9 and 14, as one table with one
+-- theorem.
 -- A row has the call, the length of the answer area, the bytes handed in, and the number and place that come back.
 -- Then the program's example there, back and in lines; other lines that it prints; an answer of two parts; item 3 where degrees are equal;
--- and the example of request 1 of document 02, there, back and in lines.
+-- and the example of request 1 of document 02, and one modulo 289 for request 5, there, back and in lines.
 use mathlib.Core.Path.{_≡_, refl}
 use Prim.Native.Nat.{ℕ}
 use mathlib.Core.List.{List, [], _∷_, _++_, map}
@@ -48,6 +49,16 @@ abbrev pub runExampleAnswer : List ℕ
 runExampleAnswer =
     0x01 ∷ 2 ∷ 0x02 ∷ 2 ∷ 0x11 ∷ 1 ∷ 2 ∷ 2 ∷ 0x12 ∷ 2 ∷ 1 ∷ 0x03 ∷ 0 ∷ 1 ∷ 0x13 ∷ 1 ∷ 1 ∷ 0 ∷ 0x14 ∷ 4 ∷ 0 ∷ 0x0F ∷ []
 
+-- "Sensor rings with 17 teeth need modulus 289": x² + 288
+abbrev pub wideExample : List ℕ
+wideExample = 0x01 ∷ 17 ∷ 0x02 ∷ 2 ∷ 0x05 ∷ 0 ∷ 32 ∷ 1 ∷ 0x0F ∷ []
+
+-- its answer: basic x + 1 and basic x + 288
+abbrev pub wideExampleAnswer : List ℕ
+wideExampleAnswer =
+    0x01 ∷ 17 ∷ 0x02 ∷ 2 ∷ 0x11 ∷ 1 ∷ 1 ∷ 1 ∷ 0x12 ∷ 1 ∷ 1 ∷ 0x05 ∷ 0 ∷ 1 ∷ 0 ∷ 0x11 ∷ 1 ∷ 1 ∷ 1 ∷ 0x12 ∷ 1 ∷ 1 ∷ 0x05 ∷ 0 ∷ 32 ∷ 1
+    ∷ 0x13 ∷ 2 ∷ 2 ∷ 0 ∷ 0x0F ∷ []
+
 -- the table: the rows of document 01 under their text, then the others
 abbrev pub edges : List Edge
 edges =
@@ -92,6 +103,35 @@ edges =
     ∷ edge splitCall answerArea (0x01 ∷ 2 ∷ 0x04 ∷ []) 3 2
     ∷ edge splitCall answerArea (0x01 ∷ 2 ∷ 0x02 ∷ 2 ∷ 0x03 ∷ 0 ∷ 1 ∷ 0x04 ∷ []) 2 8
     ∷ edge splitCall answerArea (runExample ++ (0x04 ∷ [])) 8 9
+    -- "All 54 primes below 256 are taken"
+    ∷ edge splitCall answerArea (0x01 ∷ 11 ∷ 0x02 ∷ 1 ∷ 0x0F ∷ []) 0 0
+    ∷ edge splitCall answerArea (0x01 ∷ 251 ∷ 0x02 ∷ 1 ∷ 0x0F ∷ []) 0 0
+    ∷ edge splitCall answerArea (0x01 ∷ 0 ∷ []) 4 1
+    ∷ edge splitCall answerArea (0x01 ∷ 1 ∷ []) 4 1
+    ∷ edge splitCall answerArea (0x01 ∷ 16 ∷ []) 4 1
+    ∷ edge splitCall answerArea (0x01 ∷ 253 ∷ []) 4 1
+    ∷ edge splitCall answerArea (0x01 ∷ 255 ∷ []) 4 1
+    -- 0x05 "for primes from 17 up; the wrong one of the two is refused as 3"
+    ∷ edge splitCall answerArea (0x01 ∷ 13 ∷ 0x02 ∷ 1 ∷ 0x03 ∷ 0 ∷ 168 ∷ 0x0F ∷ []) 0 0
+    ∷ edge splitCall answerArea (0x01 ∷ 13 ∷ 0x02 ∷ 1 ∷ 0x03 ∷ 0 ∷ 169 ∷ 0x0F ∷ []) 7 6
+    ∷ edge splitCall answerArea (0x01 ∷ 13 ∷ 0x02 ∷ 1 ∷ 0x05 ∷ 0 ∷ 168 ∷ 0 ∷ 0x0F ∷ []) 3 4
+    ∷ edge splitCall answerArea (0x01 ∷ 17 ∷ 0x02 ∷ 1 ∷ 0x03 ∷ 0 ∷ 168 ∷ 0x0F ∷ []) 3 4
+    -- "judged once both bytes are there, at the place of its first": 256 and 288 pass, whatever the low byte; 0, 289 and 65,535 do not
+    ∷ edge splitCall answerArea (0x01 ∷ 17 ∷ 0x02 ∷ 1 ∷ 0x05 ∷ 0 ∷ 0 ∷ 1 ∷ 0x0F ∷ []) 0 0
+    ∷ edge splitCall answerArea (0x01 ∷ 17 ∷ 0x02 ∷ 1 ∷ 0x05 ∷ 0 ∷ 32 ∷ 1 ∷ 0x0F ∷ []) 0 0
+    ∷ edge splitCall answerArea (0x01 ∷ 17 ∷ 0x02 ∷ 1 ∷ 0x05 ∷ 0 ∷ 0 ∷ 0 ∷ 0x0F ∷ []) 7 6
+    ∷ edge splitCall answerArea (0x01 ∷ 17 ∷ 0x02 ∷ 1 ∷ 0x05 ∷ 0 ∷ 33 ∷ 1 ∷ []) 7 6
+    ∷ edge splitCall answerArea (0x01 ∷ 17 ∷ 0x02 ∷ 1 ∷ 0x05 ∷ 0 ∷ 255 ∷ 255 ∷ 0x0F ∷ []) 7 6
+    ∷ edge splitCall answerArea (0x01 ∷ 17 ∷ 0x02 ∷ 1 ∷ 0x05 ∷ 0 ∷ 0 ∷ []) 2 7
+    ∷ edge splitCall answerArea (0x01 ∷ 17 ∷ 0x02 ∷ 1 ∷ 0x05 ∷ 0 ∷ []) 2 6
+    ∷ edge splitCall answerArea (0x01 ∷ 17 ∷ 0x02 ∷ 1 ∷ 0x05 ∷ 1 ∷ []) 6 5
+    ∷ edge splitCall answerArea (0x01 ∷ 251 ∷ 0x02 ∷ 1 ∷ 0x05 ∷ 0 ∷ 24 ∷ 246 ∷ 0x0F ∷ []) 0 0
+    ∷ edge splitCall answerArea (0x01 ∷ 251 ∷ 0x02 ∷ 1 ∷ 0x05 ∷ 0 ∷ 25 ∷ 246 ∷ 0x0F ∷ []) 7 6
+    -- behind a first 0x05; and 14 by both bytes: 17 divides 272, and not its low byte 16
+    ∷ edge splitCall answerArea (0x01 ∷ 17 ∷ 0x02 ∷ 2 ∷ 0x05 ∷ 0 ∷ 1 ∷ 0 ∷ 0x05 ∷ 1 ∷ 33 ∷ 1 ∷ []) 7 10
+    ∷ edge splitCall answerArea (0x01 ∷ 17 ∷ 0x02 ∷ 2 ∷ 0x05 ∷ 0 ∷ 1 ∷ 0 ∷ 0x05 ∷ 0 ∷ []) 6 9
+    ∷ edge splitCall answerArea (0x01 ∷ 17 ∷ 0x02 ∷ 2 ∷ 0x05 ∷ 0 ∷ 1 ∷ 0 ∷ 0x03 ∷ []) 3 8
+    ∷ edge splitCall answerArea (0x01 ∷ 17 ∷ 0x02 ∷ 1 ∷ 0x05 ∷ 0 ∷ 16 ∷ 1 ∷ 0x04 ∷ []) 14 8
     -- "The answer reader gives only 1 and 9"
     ∷ edge readCall 383 exampleAnswer 1 0
     ∷ edge readCall answerArea exampleAnswer 0 0
@@ -104,6 +144,10 @@ edges =
     (0x01 ∷ 2 ∷ 0x02 ∷ 2 ∷ 0x11 ∷ 1 ∷ 2 ∷ 2 ∷ 0x12 ∷ 2 ∷ 1 ∷ 0x03 ∷ 0 ∷ 1 ∷ 0x13 ∷ 1 ∷ 1 ∷ 0 ∷ 0x14 ∷ 8 ∷ 0 ∷ 0x0F ∷ []) 9 0
     ∷ edge readCall answerArea
     (0x01 ∷ 2 ∷ 0x02 ∷ 2 ∷ 0x11 ∷ 1 ∷ 2 ∷ 2 ∷ 0x12 ∷ 2 ∷ 1 ∷ 0x03 ∷ 0 ∷ 1 ∷ 0x13 ∷ 1 ∷ 1 ∷ 0 ∷ 0x14 ∷ 4 ∷ 0x0F ∷ []) 9 0
+    -- the answer for x + 1 modulo 289, and with its coefficient under 0x03; that modulo 169 with its coefficient under 0x05
+    ∷ edge readCall answerArea (0x01 ∷ 17 ∷ 0x02 ∷ 1 ∷ 0x11 ∷ 1 ∷ 1 ∷ 1 ∷ 0x12 ∷ 1 ∷ 1 ∷ 0x05 ∷ 0 ∷ 1 ∷ 0 ∷ 0x13 ∷ 1 ∷ 1 ∷ 0 ∷ 0x0F ∷ []) 0 0
+    ∷ edge readCall answerArea (0x01 ∷ 17 ∷ 0x02 ∷ 1 ∷ 0x11 ∷ 1 ∷ 1 ∷ 1 ∷ 0x12 ∷ 1 ∷ 1 ∷ 0x03 ∷ 0 ∷ 1 ∷ 0x13 ∷ 1 ∷ 1 ∷ 0 ∷ 0x0F ∷ []) 9 0
+    ∷ edge readCall answerArea (0x01 ∷ 13 ∷ 0x02 ∷ 1 ∷ 0x11 ∷ 1 ∷ 1 ∷ 1 ∷ 0x12 ∷ 1 ∷ 1 ∷ 0x05 ∷ 0 ∷ 1 ∷ 0 ∷ 0x13 ∷ 1 ∷ 1 ∷ 0 ∷ 0x0F ∷ []) 9 0
     ∷ []
 
 -- the definitions give the table
@@ -168,3 +212,18 @@ run-read = refl
 pub run-printed : printed runExample ≡ ascii "prime 2 degree 2\npart 1 2 solid\nfactor 1 1 0 1\ntotal 1 different 1 free 0\nrun 4\n"
 unfolding everything
 run-printed = refl
+
+-- an example for request 5, there
+pub wide-answered : splitCall answerArea wideExample ≡ success wideExampleAnswer
+unfolding everything
+wide-answered = refl
+
+-- and back
+pub wide-read : readCall answerArea wideExampleAnswer ≡ success wideExample
+unfolding everything
+wide-read = refl
+
+-- its lines
+pub wide-printed : printed wideExample ≡ ascii "prime 17 degree 2\npart 1 1 basic\nfactor 1 1 1\npart 1 1 basic\nfactor 1 288 1\ntotal 2 different 2 free 0\n"
+unfolding everything
+wide-printed = refl

@@ -1,5 +1,5 @@
 -- The inverse of a number modulo n: item 8 divides by m modulo p.
--- "The table's rule, entry times unit leaves 1", is about the inverses modulo p².
+-- "The 6,027 inverses modulo these primes" are those of 1, 2, .., p − 1 modulo each taken prime p.
 use Prim.Native.Nat.{ℕ, _*_, _%_}
 use lib.Dec.{eqb}
 use Rattle.specification.specs.Lists.{first, below}

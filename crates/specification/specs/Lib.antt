@@ -20,6 +20,7 @@ pub mod Grammar
 pub mod TypedLines
 pub mod Longest
 pub mod Term3
+pub mod PrimeClaims
 pub mod Items1to3
 pub mod Items4to9
 pub mod Algorithm45

@@ -13,7 +13,7 @@ use Rattle.specification.specs.Parts.{hBar, m1, w, u, splitting, partsOf
 use Rattle.specification.specs.Algorithm45.{algorithm45}
 use Rattle.specification.specs.Totals.{members, listOf, different, freeDigits}
 use Rattle.specification.specs.Commands.{bytesOf, operandCount, commandsAfter, firstWith, has}
-use Rattle.specification.specs.Reading.{done, goOn, _>>=_, judged, onNext, byte, commandByte, withOperand, flag}
+use Rattle.specification.specs.Reading.{done, goOn, _>>=_, judged, onNext, byte, twoByteNumber, commandByte, withOperand, flag}
 use Rattle.specification.specs.Coefficients.{coefficientCommands, coefficients}
 use Rattle.specification.specs.RunLength.{powerLessOne, runLength, hasRun, pulse, pulses}
 use Rattle.specification.specs.Sheets.{sheet, whole, readSheet, headCommands, lastCommands, sheetCommands, sheetBytes}
@@ -40,7 +40,7 @@ unfolding
     algorithm45
     members listOf different freeDigits
     bytesOf operandCount commandsAfter firstWith has
-    done goOn _>>=_ judged onNext byte commandByte withOperand flag
+    done goOn _>>=_ judged onNext byte twoByteNumber commandByte withOperand flag
     coefficientCommands coefficients
     powerLessOne runLength hasRun pulse pulses
     sheet whole readSheet headCommands lastCommands sheetCommands sheetBytes

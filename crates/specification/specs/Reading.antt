@@ -3,7 +3,8 @@
 use Prim.Native.Nat.{ℕ, suc}
 use mathlib.Core.Bool.{Bool, true, false, cond}
 use mathlib.Core.List.{List, [], _∷_}
-use lib.Dec.{eqb}
+use lib.Dec.{eqb, ltb}
+use Rattle.specification.specs.Commands.{fromTwoBytes}
 
 -- a value, with the place after its bytes and the bytes from there on; or the fault that ends the reading
 pub data Read (A : Type 0) : Type 0 where
@@ -48,6 +49,18 @@ byte at (b ∷ bytes) = got b (suc at) bytes
 -- 3: "A byte at a command's place is not a command allowed there"
 unfoldable pub commandByte : ℕ → Reader ℕ
 commandByte code = judged 3 (λ b. eqb b code) byte
+
+-- what a byte holds; the lists of numbers that are read may hold more
+abbrev pub isByte : ℕ → Bool
+isByte b = ltb b 256
+
+-- a number of two bytes, "low byte first". Among bytes it is read whole and never at fault; a low number that is no byte is k, or two lists would give one
+-- number
+unfoldable pub twoByteNumber : ℕ → Reader ℕ
+twoByteNumber k = do
+  low ← judged k isByte byte
+  high ← byte
+  done (fromTwoBytes (low ∷ high ∷ []))
 
 -- a command with its operand
 unfoldable pub withOperand : {A : Type 0} → ℕ → Reader A → Reader A

@@ -18,7 +18,7 @@ pub record PolyRecord : Type 0 where
 abbrev pub modulus : PolyRecord → ℕ
 modulus a = a .prime ²
 
--- "It is proper if the prime is 2, 3, 5 or 7 and every coefficient is below p²"; it has 33 of them
+-- "It is proper if the prime is 2, 3, 5 or 7", or one of the longer list, "and every coefficient is below p²"; it has 33 of them
 unfoldable pub proper : PolyRecord → Bool
 proper a =
     taken (a .prime)

@@ -27,7 +27,7 @@ AnswersFit = (bytes : List ℕ) (s : Sheet) → readSheet bytes ≡ accepted s �
 
 -- ---- sheets
 
--- "a sheet naming a prime p (2, 3, 5 or 7) and a monic f of degree 1 to 32"
+-- "a sheet naming a prime p", one of the 54, "and a monic f of degree 1 to 32"
 pub record GoodSheet (s : Sheet) : Type 0 where
   pub prime : T (taken (s .prime))
   pub monic : Monic (s .prime ²) (s .poly)
@@ -39,9 +39,9 @@ pub record GoodSheet (s : Sheet) : Type 0 where
 abbrev pub SheetsTaken : Type 0
 SheetsTaken = (bytes : List ℕ) (s : Sheet) → (readSheet bytes ≡ accepted s) ↔ (GoodSheet s × (bytes ≡ sheetBytes s))
 
--- the most bytes a sheet has: 01 p 02 n, three for each coefficient below the top, 04, 0F
+-- the most bytes a sheet has: 01 p 02 n, four for each coefficient below the top, 04, 0F
 abbrev pub sheetLimit : ℕ
-sheetLimit = 6 + 3 * degreeLimit
+sheetLimit = 6 + 4 * degreeLimit
 
 -- an input too long for a sheet: refused, at a place within the limit
 pub record LongRefused (bytes : List ℕ) : Type 0 where

@@ -24,7 +24,7 @@ sheetOf p f = record { prime = p; poly = f; run = false }
 
 -- ---- read
 
--- 4: "The prime is not 2, 3, 5 or 7"
+-- 4: "All 54 primes below 256 are taken, and number 4 now means any other prime operand"
 abbrev pub primeOperand : Reader ℕ
 primeOperand = judged 4 taken byte
 
@@ -35,7 +35,8 @@ degreeTaken n = ltb 0 n && leb n degreeLimit
 abbrev pub degreeOperand : Reader ℕ
 degreeOperand = judged 5 degreeTaken byte
 
--- "A sheet is 0x01, 0x02, any number of 0x03, 0x0F"; the degree means "leading coefficient 1, the rest 0".
+-- "A sheet is 0x01, 0x02, any number of 0x03, 0x0F", or of 0x05: "the wrong one of the two is refused as 3"; the degree means "leading coefficient 1, the
+-- rest 0".
 -- "A sheet may carry command 0x04, without operand, just before 0x0F"; 14, "p divides the constant coefficient, at the place of 0x04"
 unfoldable pub sheet : Reader Sheet
 sheet = do

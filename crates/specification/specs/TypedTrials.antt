@@ -6,7 +6,7 @@ use lib.ListN.{replicate}
 use Rattle.specification.specs.Limits.{answerArea}
 use Rattle.specification.specs.Calls.{Outcome, success, refused}
 use Rattle.specification.specs.Text.{ascii}
-use Rattle.specification.specs.Edges.{example}
+use Rattle.specification.specs.Edges.{example, wideExample}
 use Rattle.specification.specs.Grammar.{blankSign}
 use Rattle.specification.specs.TypedLines.{Typed}
 
@@ -39,6 +39,9 @@ typedTrials =
     -- "as a term it is taken modulo p²"; "The zeroth power is 1"
     ∷ trial "2:x^2+65535*x+7" (success (0x01 ∷ 2 ∷ 0x02 ∷ 2 ∷ 0x03 ∷ 0 ∷ 3 ∷ 0x03 ∷ 1 ∷ 3 ∷ 0x0F ∷ []))
     ∷ trial "5:0^0*x" (ofX 5)
+    -- primes from 11 up: a coefficient modulo 169 has one byte, modulo 289 two
+    ∷ trial "13:x+168" (success (0x01 ∷ 13 ∷ 0x02 ∷ 1 ∷ 0x03 ∷ 0 ∷ 168 ∷ 0x0F ∷ []))
+    ∷ trial "17:(x+1)*(x-1)" (success wideExample)
     -- 15: "Blanks .. never inside a number", none before the first sign or behind the last, no other space
     ∷ trial "" (refused 15 0)
     ∷ trial " 3:x" (refused 15 0)
@@ -65,6 +68,8 @@ typedTrials =
     ∷ trial "2:x^33-x^33+x" (refused 16 0)
     ∷ trial "4:2*x" (refused 4 0)
     ∷ trial "65535:x^32*x" (refused 4 0)
+    ∷ trial "253:x" (refused 4 0)
+    ∷ trial "257:x" (refused 4 0)
     -- 17: "whose degrees call for more than 32", though the value vanishes or is multiplied by 0
     ∷ trial "2:x^16*x^16*x" (refused 17 0)
     ∷ trial "2:(2*x^17)^2+x" (refused 17 0)

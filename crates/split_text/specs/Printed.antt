@@ -1,5 +1,5 @@
 -- What is printed for the bytes of the program's input, in the two cases of their reading.
--- Proves that `textRoom` is room for it, and that what follows the first 103 bytes of an input changes nothing. Assumes nothing.
+-- Proves that `textRoom` is room for it, and that what follows the first 135 bytes of an input changes nothing. Assumes nothing.
 use mathlib.Core.Path.{_≡_, refl, sym, _∙_, ap, subst}
 use mathlib.Core.List.{List, _++_}
 use Prim.Native.Nat.{ℕ, _<_}

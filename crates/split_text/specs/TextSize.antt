@@ -1,5 +1,5 @@
 -- How long texts are: `Sized k bytes`, at most k bytes, each below 256.
--- Proves that the lines for a good sheet are at most 64 bytes and 38 for each degree, and with them that `textRoom` is room for any text.
+-- Proves that the lines for a good sheet are at most 64 bytes and 42 for each degree, and with them that `textRoom` is room for any text.
 -- Assumes nothing.
 use mathlib.Core.Path.{_≡_, subst}
 use mathlib.Core.Bool.{true}
@@ -35,7 +35,7 @@ use Rattle.specification.specs.SheetClaims.{GoodSheet, sheetLimit}
 use Rattle.lists.specs.Tests.{picked, passes}
 use Rattle.lists.specs.AllAny.{all-member}
 use Rattle.lists.specs.FlatMaps.{all-flatMap, length-weighed}
-use Rattle.algebra.specs.TakenPrimes.{fits-byte, square-fits-byte}
+use Rattle.algebra.specs.TakenPrimes.{fits-byte, square-small}
 use Rattle.lists.specs.Members.{All, all-append, all-entries}
 use Rattle.lists.specs.Sums.{total as sum, total-one, member-le}
 use Rattle.runs.specs.RunLengths.{run-limit}
@@ -98,38 +98,39 @@ sized-verdict solid = sized-word " solid\n" tt
 sized-verdict power = sized-word " power\n" tt
 sized-verdict (split m1) = sized-word " split\n" tt
 
-sized-coefficients : (f : Poly) → All Byte f → Sized (4 * length f) (coefficientText f)
+-- a coefficient has five digits
+sized-coefficients : (f : Poly) → All (λ a. a < 65536) f → Sized (6 * length f) (coefficientText f)
 unfolding coefficientText allPass
 sized-coefficients f h =
-    subst (λ k. Sized (4 * k) (flatMap (item " ") f)) (total-one f)
-    (sized-each 4 (λ a. 1) (item " ") f (λ a i. sized-item " " tt a (omega (arith, h a i))))
+    subst (λ k. Sized (6 * k) (flatMap (item " ") f)) (total-one f)
+    (sized-each 6 (λ a. 1) (item " ") f (λ a i. sized-number " " tt 5 a (omega arith) (omega (arith, h a i))))
 
-module _ {n : ℕ} (small : n ≤ 256) where
-  -- 15 bytes, and 4 for each degree
+module _ {n : ℕ} (small : n ≤ 65536) where
+  -- 17 bytes, and 6 for each degree
   sized-factor : {d : ℕ} (q : Factor) → FactorShape n d q → degree (q .poly) * q .times ≤ degreeLimit
-      → Sized (19 * (degree (q .poly) * q .times)) (factorText q)
+      → Sized (23 * (degree (q .poly) * q .times)) (factorText q)
   unfolding factorText allPass
   sized-factor q s l =
       let positive = s .monic .positive in
-      let coefficients : All Byte (q .poly) = all-entries Byte 0 (q .poly) (λ j u. omega (arith, small, s .monic .reduced j u)) in
+      let coefficients : All (λ a. a < 65536) (q .poly) = all-entries (λ a. a < 65536) 0 (q .poly) (λ j u. omega (arith, small, s .monic .reduced j u)) in
       sized-within (omega (arith, mul-le-mul-left (degree (q .poly)) (s .repeated)))
       (sized-append (sized-append (sized-item "factor " tt (q .times) (omega (arith, mul-le-mul-right (q .times) positive)))
       (sized-coefficients (q .poly) coefficients)) (sized-word "\n" tt))
 
   -- 19 bytes, and those of its factors
-  sized-part : (P : Part) → PartShape n P → partDegree P ≤ degreeLimit → Sized (38 * partDegree P) (partText P)
+  sized-part : (P : Part) → PartShape n P → partDegree P ≤ degreeLimit → Sized (42 * partDegree P) (partText P)
   unfolding partText allPass
   sized-part P s l =
       let low-degree = mul-le-mul-left (degree (P .base)) (s .exponent) in
       let low-exponent = mul-le-mul-right (P .exponent) (s .base) in
       sized-within (omega (arith, low-degree, s .base, s .degrees))
       (sized-append (sized-append (sized-append (sized-item "part " tt (degree (P .base)) (omega arith)) (sized-item " " tt (P .exponent) (omega arith)))
-      (sized-verdict (P .splitting .verdict))) (sized-each 19 weight factorText (P .splitting .factors) factors))
+      (sized-verdict (P .splitting .verdict))) (sized-each 23 weight factorText (P .splitting .factors) factors))
     where
       weight : Factor → ℕ
       weight q = degree (q .poly) * q .times
 
-      factors : All (λ q. Sized (19 * (degree (q .poly) * q .times)) (factorText q)) (P .splitting .factors)
+      factors : All (λ q. Sized (23 * (degree (q .poly) * q .times)) (factorText q)) (P .splitting .factors)
       factors q i = sized-factor q (s .factors q i) (omega (arith, member-le (λ (r : Factor). degree (r .poly) * r .times) i, s .degrees))
 
   -- a run has five digits
@@ -141,14 +142,14 @@ module _ {n : ℕ} (small : n ≤ 256) where
       (λ t. record { short = omega arith; low = λ b i. elim i [ ] })
 
   sized-parts : (s : Sheet) (Ps : List Part) → s .prime < 1000 → degree (s .poly) < 1000 → All (PartShape n) Ps → partDegrees Ps ≤ degreeLimit
-      → Sized (64 + 38 * partDegrees Ps) (partsText s Ps)
+      → Sized (64 + 42 * partDegrees Ps) (partsText s Ps)
   unfolding partsText headText totalText allPass
   sized-parts s Ps k l h u =
       let all-low = total-bound Ps h in
       sized-within (omega arith)
       (sized-append (sized-append
       (sized-append (sized-append (sized-append (sized-item "prime " tt (s .prime) k) (sized-item " degree " tt (degree (s .poly)) l)) (sized-word "\n" tt))
-      (sized-each 38 partDegree partText Ps (λ P i. sized-part P (h P i) (omega (arith, member-le partDegree i)))))
+      (sized-each 42 partDegree partText Ps (λ P i. sized-part P (h P i) (omega (arith, member-le partDegree i)))))
       (sized-append (sized-append (sized-append (sized-item "total " tt (total Ps) (omega arith))
       (sized-item " different " tt (different (listOf Ps)) (omega (arith, different-bound (listOf Ps)))))
       (sized-item " free " tt (freeDigits Ps) (omega (arith, free-bound Ps h)))) (sized-word "\n" tt))) (sized-run s))
@@ -162,7 +163,7 @@ answer-sized s g =
     let t : taken p ≡ true = passes (taken p) (g .prime) in
     let prime : p < 1000 = omega (arith, fits-byte t) in
     let low = degrees-low s g in
-    sized-within (omega arith) (sized-parts (square-fits-byte p t) s (sheetParts s) prime (omega (arith, g .fits)) (shapes s g) low)
+    sized-within (omega arith) (sized-parts (omega (arith, square-small p t)) s (sheetParts s) prime (omega (arith, g .fits)) (shapes s g) low)
 
 -- a line of 19 bytes at most
 pub refusal-line : (k at : ℕ) → k < 1000 → at < 1000 → Sized 19 (refusalText k at)

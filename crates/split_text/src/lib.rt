@@ -34,7 +34,7 @@ use sheet_reader::read_sheet;
 pub const TEXT: usize = 2048;
 
 // One byte more than the longest sheet has.
-const INPUT: usize = 7 + 3 * Poly::LIMIT;
+const INPUT: usize = 7 + 4 * Poly::LIMIT;
 
 // The end of a line.
 const LINE_FEED: u8 = 10;

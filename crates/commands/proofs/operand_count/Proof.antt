@@ -23,4 +23,5 @@ operand-count-spec =
     (λ c. rw (c .match .keys7) refl)  -- returns-7
     (λ c. rw (c .match .keys8) refl)  -- returns-8
     (λ c. rw (c .match .keys9) refl)  -- returns-9
-    (λ c. sym (no-row (passed-all (λ (row : ℕ × ℕ). row .0) _ operandCounts (c .match .rest) .1))))  -- returns-10
+    (λ c. rw (c .match .keys10) refl)  -- returns-10
+    (λ c. sym (no-row (passed-all (λ (row : ℕ × ℕ). row .0) _ operandCounts (c .match .rest) .1))))  -- returns-11

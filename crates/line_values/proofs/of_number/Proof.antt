@@ -5,7 +5,7 @@ use Prim.Native.Nat.{_<_}
 use native.Mathlib.Nat.{mod-lt}
 use native.Mathlib.Omega.{arith}
 use borrow.Author.Needs.{needs}
-use Rattle.algebra.specs.TakenPrimes.{square-above-one, square-fits-byte}
+use Rattle.algebra.specs.TakenPrimes.{square-above-one, square-small}
 use Rattle.line_values.proofs.Pieces.{number-large, number-small}
 use Rattle.line_values.proofs.of_number.Statement.{statement}
 use Rattle.line_values.proofs.of_number.Tie as tie
@@ -23,6 +23,6 @@ of-number-spec =
     let v = c .before .before .args .v in
     let prime = c .before .before .pre in
     let pos : 0 < c .square .result = omega (arith, c .square .ensures, square-above-one _ prime) in
-    omega (arith, square-fits-byte _ prime, c .square .ensures, mod-lt v pos))  -- cast-coefs-2
+    omega (arith, square-small _ prime, c .square .ensures, mod-lt v pos))  -- cast-coefs-2
     (λ c. search needs)  -- array-write-coefs
     (λ c. number-small (c .before .before .pre) (c .before .if1 .left) (c .square .ensures) refl refl refl))  -- returns-2

@@ -1,8 +1,10 @@
 -- `quotients::shift` meets its contract.
 -- Assumes nothing.
+use Prim.Native.Nat.{_≤_}
 use native.Mathlib.Numerals.{add-one}
 use native.Mathlib.Omega.{arith}
 use borrow.Author.Needs.{needs}
+use Rattle.algebra.specs.Degree.{below-up}
 use Rattle.arrays.specs.SameEntries.{zero-above}
 use Rattle.modular.proofs.AddMultiple.{multiple-added-to}
 use Rattle.quotients.specs.Shift.{moved-reduced, shifted}
@@ -13,7 +15,10 @@ pub shift-spec : {M : Type 1} → statement M
 shift-spec =
     tie.close
     (tie.spec
-    (λ c κs. let pre = c .before .before .before .pre in (search needs, zero-above (pre .1) (pre .3)))  -- move-up-requires
+    (λ c κs.
+    let start = c .before .before .before in
+    let l : start .args .d ≤ 32 = omega arith in
+    (omega (arith, start .pre .1 .len), zero-above (start .pre .1) (below-up l (start .pre .3))))  -- move-up-requires
     (λ c. search needs)  -- mul-c
     (λ c. search needs)  -- slice-read-c
     (λ c.

@@ -1,31 +1,27 @@
--- `residues::inverse` meets its contract. The loop has seen that no number below y is an inverse.
+-- `residues::inverse` meets its contract.
 -- Assumes nothing.
-use mathlib.Core.Path.{_≡_, sym, _∙_}
-use Prim.Native.Nat.{ℕ, _<_, _-_, _*_, _%_}
-use native.Mathlib.Omega.{arith}
-use borrow.Author.Count.{below-more}
-use borrow.Author.Needs.{needs}
-use Rattle.residues.proofs.InverseSearch.{inverse-below, inverse-none}
+use native.Mathlib.Nat.{div-le-self}
+use Rattle.residues.proofs.InverseDescent.{Descent, descent-none, descent-more, descent-less, descent-done}
 use Rattle.residues.proofs.inverse.Statement.{statement}
 use Rattle.residues.proofs.inverse.Tie as tie
 
 abbrev Inv-loop : tie.InvT-loop
-Inv-loop c p y₀ y = (k : ℕ) → k < y → c * k % p ≡ 1 → ⊥
+Inv-loop c p r₀ e₀ r e = Descent p c r e
 
 abbrev μ-loop : tie.MeasureT-loop
-μ-loop c p y₀ y = p - y
+μ-loop c p r₀ e₀ r e = e
 
 pub inverse-spec : {M : Type 1} → statement M
 inverse-spec =
     tie.close
     (tie.spec Inv-loop μ-loop
-    (λ c. inverse-none (c .args .c) (c .args .p))  -- loop-holds
-    (λ c κs. search needs)  -- times-requires
-    (λ c. (c .before .before .loop-test .taken, sym (c .before .times .ensures .0) ∙ c .if1 .taken))  -- returns
-    (λ c. search needs)  -- add-y
-    (λ c. search needs)  -- loop-less
-    (λ c. below-more _ _ (c .before .before .before .loop .inv) (λ e. c .if1 .left (c .before .times .ensures .0 ∙ e)))  -- loop-again
+    (λ c. descent-none (c .pre .0 .large) (c .pre .1) (c .pre .2))  -- loop-holds
+    (λ c. c .before .loop .inv .positive)  -- div-times
+    (λ c. div-le-self _ _)  -- sub-times
+    (λ c κs. c .before .loop .inv .low)  -- times-requires
+    (λ c. c .before .before .loop .inv .positive)  -- rem-e
+    (λ c. descent-less (c .before .before .loop .inv))  -- loop-less
     (λ c.
-    let pre = c .before .before .pre in
-    let (y, l, e) = inverse-below (pre .0) (c .before .before .args .c) (pre .1) (pre .2) in
-    absurd (c .before .loop .inv y (omega arith) e)))  -- returns-2
+    let (is, low) = c .times .ensures in
+    descent-more (c .before .before .before .pre .0) (c .before .before .loop .inv) (c .before .loop-test .taken) is low)  -- loop-again
+    (λ c. descent-done (c .before .loop .inv) (c .loop-test .left)))  -- returns

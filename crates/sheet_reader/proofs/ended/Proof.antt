@@ -8,8 +8,8 @@ use Rattle.specification.specs.Sheets.{Sheet}
 use Rattle.layouts.specs.SheetStages.{onlyEnd}
 use Rattle.commands.specs.declared.Sheet.{Sheet as Struct}
 use Rattle.commands.specs.AsSheet.{asSheet}
+use Rattle.sheet_steps.specs.Steps.{readAt, left-more}
 use Rattle.sheet_reader.specs.AsSheetRead.{sheetRead, struct-back}
-use Rattle.sheet_reader.specs.Steps.{readAt, left-more}
 use Rattle.sheet_reader.specs.Stages.{LeftOf, left-refused, byte-follows, nothing-follows}
 use Rattle.sheet_reader.proofs.ended.Statement.{statement}
 use Rattle.sheet_reader.proofs.ended.Tie as tie

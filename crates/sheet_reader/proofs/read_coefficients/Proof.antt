@@ -4,7 +4,7 @@ use Prim.Native.Nat.{ℕ, _+_, _-_}
 use native.Mathlib.Omega.{arith}
 use lib.ListN.{length}
 use borrow.Author.Needs.{needs}
-use Rattle.sheet_reader.specs.Steps.{Inside, step-inside}
+use Rattle.sheet_steps.specs.Steps.{Inside, step-inside}
 use Rattle.sheet_reader.specs.Underway.{
   Underway,
   IndexDue,

@@ -14,9 +14,9 @@ use Rattle.arrays.specs.Listed.{listed}
 use Rattle.algebra.specs.Fields.{taken-prime}
 use Rattle.layouts.specs.Operands.{prime-exact}
 use Rattle.commands.specs.AsSheet.{constant-decides}
-use Rattle.sheet_reader.specs.AsSheetRead.{sheetRead}
-use Rattle.sheet_reader.specs.Steps.{StepAs, FlagOf, step-inside, step-good, left-more}
 use Rattle.layouts.specs.SheetStages.{allCoefficients, afterPrime, afterDegree, afterCoefficients, afterRun}
+use Rattle.sheet_steps.specs.Steps.{StepAs, FlagOf, step-inside, step-good, left-more}
+use Rattle.sheet_reader.specs.AsSheetRead.{sheetRead}
 use Rattle.sheet_reader.specs.Stages.{
   LeftOf,
   left-first,
