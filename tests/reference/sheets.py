@@ -89,6 +89,15 @@ def read_sheet(data: bytes) -> Sheet:
     return Sheet(prime, polynomial, code == RUN)
 
 
+def fault(data) -> tuple:
+    """Number and place of a refused sheet; (0, 0) for an accepted one."""
+    try:
+        read_sheet(bytes(data))
+        return 0, 0
+    except Refusal as refusal:
+        return refusal.number, refusal.place
+
+
 def coefficient_commands(prime: int, polynomial: list) -> bytes:
     """ "0x03 commands for every coefficient other than 0 below the top, index rising", or 0x05 commands"""
     width = 2 if is_wide(prime) else 1

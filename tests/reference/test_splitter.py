@@ -9,7 +9,7 @@ from brute_force import irreducibles, monics_to, walked_run
 from known_runs import with_run
 from parts import WORDS, parts_of, totals_of
 from polynomials import degree, product_of
-from sheets import Refusal, Sheet, has_run, read_sheet, sheet_bytes
+from sheets import Sheet, fault, has_run, read_sheet, sheet_bytes
 from splitter import AREA, program, read, split
 
 EMPTY_AREA = bytes(AREA)
@@ -29,15 +29,6 @@ TRIAL_TABLE = (
     (3, [4, 0, 6, 1], [("split", [([1, 1], 2), ([4, 1], 1)])], 2),
     (5, [1, 0, 1], [("basic", [([7, 1], 1)]), ("basic", [([18, 1], 1)])], 0),
 )
-
-
-def fault(data):
-    """Number and place of a refused sheet; (0, 0) for an accepted one."""
-    try:
-        read_sheet(bytes(data))
-        return 0, 0
-    except Refusal as refusal:
-        return refusal.number, refusal.place
 
 
 class Papers(unittest.TestCase):

@@ -26,22 +26,13 @@ from parts import BASIC, POWER, SOLID, SPLIT, parts_of
 from polynomial_cases import some_monic
 from polynomials import degree, power, product_of, reduced
 from run_lengths import RUN_LIMIT, run_length
-from sheets import Refusal, Sheet, has_run, is_wide, read_sheet, sheet_bytes
+from sheets import Refusal, Sheet, fault, has_run, is_wide, read_sheet, sheet_bytes
 from splitter import AREA, program, split, typed
 from wide_polynomials import PRIMES_OF_NOTE, known_runs, some_base, wide_sheets
 from wide_reader_cases import LONGEST, rewritten
 from wide_record_cases import largest_coefficients
 
 EMPTY_AREA = bytes(AREA)
-
-
-def fault(data):
-    """Number and place of a refused sheet; (0, 0) for an accepted one."""
-    try:
-        read_sheet(bytes(data))
-        return 0, 0
-    except Refusal as refusal:
-        return refusal.number, refusal.place
 
 
 class Primes(unittest.TestCase):

@@ -132,7 +132,7 @@ fn read_coefficient(answer: &[u8], at: usize, degree: usize, prime: u8) -> Coeff
 }
 
 // x to the degree with the coefficients that are written from a place on, before any other command. Those of another prime's width are read as they stand:
-// the answer is compared whole in the end, and finds them out.
+// the whole answer is compared in the end, which finds them out.
 fn read_coefficients(answer: &[u8], at: usize, degree: usize, prime: u8) -> Coefficients
     requires { ⌜ (1 < prime ²) × (degree ≤ 32) ⌝ }
     ensures { λ r. ⌜ CoefficientsOf (now (answer .entry)) at degree prime r ⌝ }
