@@ -1,5 +1,5 @@
 /* Times `kuzhmader_split` (the whole answer, from bytes to bytes) and FLINT's `nmod_poly_factor` (of the bar, modulo p) in one process on
- * the same polynomials of degree 32. A polynomial's time is the best of five rounds of repeated calls; a line has the medians over a kind.
+ * the same polynomials of degree 32, and of the degrees 8 and 16. A polynomial's time is the best of five rounds of repeated calls; a line has the medians over a kind.
  * Then `kuzhmader_copy` beside `kuzhmader_split` on the same ones, and `kuzhmader_typed` on lines of those of 2 and 7, and on two of powers; then the random
  * ones, without 0x04 and with it, and a plain walk to the run length, which is above 65,535 for nearly all of them.
  * Checksums are given for all polynomials, and for those of 2 and 7 alone, which are the ones of before request 5.
@@ -119,25 +119,25 @@ static double median(double *times)
 }
 
 /* Two calls of any sort on the polynomials of a kind, in turn. */
-static void time_kind(unsigned p, unsigned kind, double (*calls)(const polynomial *, int), double (*beside)(const polynomial *, int))
+static void time_kind(const polynomial *f, const char *kind, double (*calls)(const polynomial *, int), double (*beside)(const polynomial *, int))
 {
     static double first[EACH], second[EACH];
     for (int i = 0; i < EACH; i++) {
-        first[i] = timed(calls, &polynomials[p][kind][i]);
-        second[i] = timed(beside, &polynomials[p][kind][i]);
+        first[i] = timed(calls, f + i);
+        second[i] = timed(beside, f + i);
     }
     double one = median(first), other = median(second);
-    printf("%5u  %-8s %12.1f %12.1f %8.2f   (slowest %.1f and %.1f)\n", primes[p], kinds[kind], one, other, one / other,
-           first[EACH - 1], second[EACH - 1]);
+    printf("%5u  %-8s %12.1f %12.1f %8.2f   (slowest %.1f and %.1f)\n", f->prime, kind, one, other, one / other, first[EACH - 1], second[EACH - 1]);
     fflush(stdout);
 }
 
-static void time_kinds(const char *names, unsigned count, double (*calls)(const polynomial *, int), double (*beside)(const polynomial *, int))
+static void time_kinds(const char *names, polynomial all[PRIMES][KINDS][EACH], unsigned count, double (*calls)(const polynomial *, int),
+                       double (*beside)(const polynomial *, int))
 {
-    printf("prime  kind  %s    ratio   medians of %d polynomials of degree %d\n", names, EACH, DEGREE);
+    printf("prime  kind  %s    ratio   medians of %d polynomials of degree %u\n", names, EACH, all[0][0][0].degree);
     for (unsigned p = 0; p < count; p++)
         for (unsigned kind = 0; kind < KINDS; kind++)
-            time_kind(p, kind, calls, beside);
+            time_kind(all[p][kind], kinds[kind], calls, beside);
 }
 
 /* What 0x04 costs: medians of a split without it and with it, of what the second takes more, and of the walks; the one by a table is for the earlier primes. */
@@ -199,13 +199,17 @@ int main(void)
 {
     make_polynomials();
     int good = compared("parts that agree with FLINT " FLINT_VERSION, kuzhmader_split, &polynomials[0][0][0], KINDS * EACH, agrees);
+    for (unsigned l = 0; l < LOWER; l++)
+        good = compared("the same of lower degree", kuzhmader_split, &lower[l][0][0][0], KINDS * EACH, agrees) && good;
     good = compared("run lengths that agree with a walk", kuzhmader_split, &with_run[0][0], EACH, run_agrees) && good;
     good = compared("copies that agree with the answers", kuzhmader_copy, &polynomials[0][0][0], KINDS * EACH, copy_agrees) && good;
     int lines = lines_that_agree();
     printf("typed lines that agree with their sheets: %d of %d\n", lines, EARLIER_PRIMES * KINDS * EACH);
-    time_kinds("    library µs     FLINT µs", PRIMES, split_calls, flint_calls);
-    time_kinds("       copy µs     split µs", PRIMES, copy_calls, split_calls);
-    time_kinds("      typed µs     split µs", EARLIER_PRIMES, typed_calls, split_calls);
+    time_kinds("    library µs     FLINT µs", polynomials, PRIMES, split_calls, flint_calls);
+    for (unsigned l = 0; l < LOWER; l++)
+        time_kinds("    library µs     FLINT µs", lower[l], PRIMES, split_calls, flint_calls);
+    time_kinds("       copy µs     split µs", polynomials, PRIMES, copy_calls, split_calls);
+    time_kinds("      typed µs     split µs", polynomials, EARLIER_PRIMES, typed_calls, split_calls);
     time_powers("7:x", "+(x+6)^32");
     time_powers("251:x", "+(x+62999)^32");
     printf("prime  without 04 µs   with 04 µs       run µs      walk µs     table µs   medians of %d random polynomials of degree %d\n", EACH, DEGREE);

@@ -12,13 +12,15 @@
 #define PRIMES 5
 #define EARLIER_PRIMES 2 /* the first of them, with which checksums of before request 5 are compared, and which alone have lines */
 #define KINDS 3
+#define LOWER 2 /* degrees below the greatest, for the growth with the degree */
 #define EACH 200
 #define RUN_LIMIT 65535
 
-/* A monic polynomial of degree 32 modulo p², constant first, its sheet, and a typed line of it: p:((..(x+c)*x+c)*x+..)*x+c. From p = 31 on such a line would
+/* A monic polynomial modulo p², constant first, its sheet, and, where its degree is 32, a typed line of it: p:((..(x+c)*x+c)*x+..)*x+c. From p = 31 on such a line would
    not fit 255 bytes, and there is none. A coefficient is below 63,001, so a product of two and one more is below 2^32. */
 typedef struct {
     unsigned prime;
+    unsigned degree;
     unsigned coefs[DEGREE + 1];
     uint8_t sheet[SHEET_BYTES];
     size_t sheet_length;
@@ -31,6 +33,9 @@ extern const char *const kinds[KINDS];
 
 /* The polynomials of all kinds for all primes, those of the earlier primes first: the same ones in every run. */
 extern polynomial polynomials[PRIMES][KINDS][EACH];
+/* The same kinds of the degrees 8 and 16. */
+extern const unsigned lower_degrees[LOWER];
+extern polynomial lower[LOWER][PRIMES][KINDS][EACH];
 /* The random ones again, with a constant coefficient that p does not divide, first without 0x04 and then with it. */
 extern polynomial without_run[PRIMES][EACH], with_run[PRIMES][EACH];
 void make_polynomials(void);

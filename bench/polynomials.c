@@ -6,7 +6,8 @@
 
 const unsigned primes[PRIMES] = {2, 7, 31, 127, 251};
 const char *const kinds[KINDS] = {"random", "linear", "powers"};
-polynomial polynomials[PRIMES][KINDS][EACH], without_run[PRIMES][EACH], with_run[PRIMES][EACH];
+const unsigned lower_degrees[LOWER] = {8, 16};
+polynomial polynomials[PRIMES][KINDS][EACH], lower[LOWER][PRIMES][KINDS][EACH], without_run[PRIMES][EACH], with_run[PRIMES][EACH];
 
 static uint64_t state = 20050101;
 
@@ -38,30 +39,30 @@ static void multiply(unsigned *f, unsigned *top, const unsigned *g, unsigned d, 
 }
 
 /* Factors of degree 1 only. */
-static void make_linear(unsigned *f, unsigned n)
+static void make_linear(unsigned *f, unsigned degree, unsigned n)
 {
     unsigned top = 0, g[2];
     f[0] = 1;
-    while (top < DEGREE) {
+    while (top < degree) {
         some_monic(g, 1, n);
         multiply(f, &top, g, 1, n);
     }
 }
 
-/* One to four powers: g to the k, of degrees that add to 32. */
-static void make_powers(unsigned *f, unsigned n)
+/* One to four powers: g to the k, of degrees that add to the degree. */
+static void make_powers(unsigned *f, unsigned degree, unsigned n)
 {
     unsigned top = 0, g[DEGREE + 1], count = 1 + below(4);
     f[0] = 1;
     for (unsigned i = 1; i <= count; i++) {
-        unsigned room = i == count ? DEGREE - top : (DEGREE - top) / 2;
+        unsigned room = i == count ? degree - top : (degree - top) / 2;
         unsigned d = 1 + below(room < 8 ? room : 8), k = room / d;
         some_monic(g, d, n);
         for (unsigned j = 0; j < k; j++)
             multiply(f, &top, g, d, n);
     }
-    some_monic(g, DEGREE - top, n);
-    multiply(f, &top, g, DEGREE - top, n);
+    some_monic(g, degree - top, n);
+    multiply(f, &top, g, degree - top, n);
 }
 
 /* 0x03 and a byte up to the prime 13, 0x05 and two bytes, low byte first, from 17 on. */
@@ -77,8 +78,8 @@ static uint8_t *write_coefficient(uint8_t *at, unsigned prime, unsigned index, u
 static void write_sheet(polynomial *f, int run)
 {
     uint8_t *at = f->sheet;
-    *at++ = 0x01, *at++ = (uint8_t)f->prime, *at++ = 0x02, *at++ = DEGREE;
-    for (unsigned i = 0; i < DEGREE; i++)
+    *at++ = 0x01, *at++ = (uint8_t)f->prime, *at++ = 0x02, *at++ = (uint8_t)f->degree;
+    for (unsigned i = 0; i < f->degree; i++)
         if (f->coefs[i] != 0)
             at = write_coefficient(at, f->prime, i, f->coefs[i]);
     if (run)
@@ -101,18 +102,19 @@ static void write_line(polynomial *f)
     f->line_length = (size_t)at;
 }
 
-static void make(polynomial *f, unsigned prime, unsigned kind)
+static void make(polynomial *f, unsigned prime, unsigned degree, unsigned kind)
 {
     unsigned n = prime * prime;
     f->prime = prime;
+    f->degree = degree;
     if (kind == 0)
-        some_monic(f->coefs, DEGREE, n);
+        some_monic(f->coefs, degree, n);
     else if (kind == 1)
-        make_linear(f->coefs, n);
+        make_linear(f->coefs, degree, n);
     else
-        make_powers(f->coefs, n);
+        make_powers(f->coefs, degree, n);
     write_sheet(f, 0);
-    if (prime <= primes[EARLIER_PRIMES - 1])
+    if (degree == DEGREE && prime <= primes[EARLIER_PRIMES - 1])
         write_line(f);
 }
 
@@ -127,13 +129,20 @@ static void make_with_run(unsigned p, unsigned i)
     write_sheet(&with_run[p][i], 1);
 }
 
-void make_polynomials(void)
+static void make_all(polynomial all[PRIMES][KINDS][EACH], unsigned degree)
 {
     for (unsigned p = 0; p < PRIMES; p++)
         for (unsigned kind = 0; kind < KINDS; kind++)
             for (unsigned i = 0; i < EACH; i++)
-                make(&polynomials[p][kind][i], primes[p], kind);
+                make(&all[p][kind][i], primes[p], degree, kind);
+}
+
+void make_polynomials(void)
+{
+    make_all(polynomials, DEGREE);
     for (unsigned p = 0; p < PRIMES; p++)
         for (unsigned i = 0; i < EACH; i++)
             make_with_run(p, i);
+    for (unsigned l = 0; l < LOWER; l++)
+        make_all(lower[l], lower_degrees[l]);
 }

@@ -1,9 +1,9 @@
 -- Natural numbers, where the kit's library lacks a fact; the ruleset `modulo` for `simp`.
--- Proves that a < b or b ≤ a, remainders inside a remainder, that p² is above 1 and not below p, and what k·d leaves of m·d. Assumes nothing.
+-- Proves that a < b or b ≤ a, remainders inside a remainder, that p² is above 1 and not below p, what k·d leaves of m·d, and what k / 2 is. Assumes nothing.
 use mathlib.Core.Path.{_≡_, sym, _∙_, ap}
-use mathlib.Core.Logic.{_⊎_, inl, inr, ⊎-elim}
+use mathlib.Core.Logic.{_⊎_, inl, inr, ⊎-elim, _≢_}
 use Prim.Native.Nat.{ℕ, zero, suc, _+_, _*_, _-_, _%_, _/_, _<_, _≤_, zero-le, suc-le-suc}
-use native.Mathlib.Nat.{mul-le-mul-left, mod-mod, mod-add-mod, add-mod-mod, mul-comm, add-mul-mod-self-left, mod-add-div}
+use native.Mathlib.Nat.{mul-le-mul-left, mod-mod, mod-add-mod, add-mod-mod, mul-comm, add-mul-mod-self-left, mod-add-div, div-add-mod', mod-lt}
 use native.Mathlib.Omega.{arith}
 use Rattle.specification.specs.Limits.{_²}
 
@@ -34,3 +34,9 @@ pub rest-multiple : {k m : ℕ} (d : ℕ) → k ≤ m → (m - k) * d + k * d �
 rest-multiple {k} {m} d l =
     let s : (m - k) * d + k * d ≡ (m - k + k) * d = omega arith in
     s ∙ ap (λ (j : ℕ). j * d) (let t : m - k + k ≡ m = omega arith in t)
+
+pub halves : (k : ℕ) → (k % 2 < 2) × (k ≡ k / 2 * 2 + k % 2)
+halves k = (mod-lt k (let two : 0 < 2 = omega arith in two), sym (div-add-mod' k 2))
+
+pub halved : (k : ℕ) → 0 < k → k ≢ 1 → (k / 2 < k) × (0 < k / 2)
+halved k l ne = let (past, whole) = halves k in (omega (arith, past, whole), omega (arith, past, whole))

@@ -1,12 +1,16 @@
 -- Arrays of 33 coefficients as polynomials over ℤ/n: `Represents n r p`, the array r holds the polynomial p;
 -- `Within n a`, every entry is below n; `ZeroFrom m a`, the entries from m on are 0.
--- Proves what the arrays of 0 and 1 represent, which coefficients a + c·f has, that n − c stands for −c, and what the terms from i on are. Assumes nothing.
-use mathlib.Core.Path.{_≡_, _∙_, ap, ap₂}
+-- Proves what the arrays of 0 and 1 represent, which coefficients a + c·f has, that n − c stands for −c, and what the terms from i on and
+-- those below are. Assumes nothing.
+use mathlib.Core.Path.{_≡_, sym, _∙_, ap, ap₂}
 use mathlib.Core.List.{List, _∷_}
+use mathlib.Core.Logic.{⊎-elim}
 use Prim.Native.Nat.{ℕ, zero, suc, _≤_, _<_, _-_, _+_}
 use native.Mathlib.Omega.{arith}
-use lib.ListN.{length, getD, drop, replicate, length-replicate}
-use lib.Seq.{drop-cons, getD-drop}
+use lib.ListN.{length, getD, take, drop, replicate, length-replicate, length-take}
+use lib.Seq.{drop-cons, getD-drop, getD-take}
+use Rattle.algebra.specs.Numbers.{lt-or-le}
+use Rattle.algebra.specs.Ring.{add-zero, zero-add}
 use Rattle.algebra.specs.Residues.{residue, Residues, residue-zero, residue-neg}
 use Rattle.algebra.specs.PolynomialRing.{
   _+ᴿ_,
@@ -24,6 +28,7 @@ use Rattle.algebra.specs.PolynomialRing.{
 }
 use Rattle.algebra.specs.Degree.{Below, below-up, monic-one}
 use Rattle.algebra.specs.CoefficientLists.{ℤ[x]/, poly, Reduced, coef-poly, poly-cons, below-poly}
+use Rattle.algebra.specs.Monomials.{x^, coef-shift-below, coef-shift}
 use Rattle.algebra.specs.ListShapes.{getD-zeros}
 use Rattle.algebra.specs.ListDivision.{poly-zeros, poly-unit}
 
@@ -82,3 +87,20 @@ module _ (n : ℕ) where
   pub poly-drop-none : (a : List ℕ) (i : ℕ) → Below i (poly n a) → poly n (drop i a) ≡ 𝟎
   poly-drop-none a i h = poly-ext (λ k.
       rw (coef-poly n (drop i a) k, getD-drop i a k 0, ← coef-poly n a (i + k), h .high (i + k) (omega arith), coef-zero))
+
+  -- the terms below i, and x^i times those from i on
+  pub poly-parts : (a : List ℕ) (i : ℕ) → poly n a ≡ poly n (take i a) +ᴿ x^ i · poly n (drop i a)
+  poly-parts a i = poly-ext (λ k. ⊎-elim (low k) (high k) (lt-or-le k i) ∙ sym (coef-add (poly n (take i a)) (x^ i · poly n (drop i a)) k))
+    where
+      low : (k : ℕ) → k < i → (poly n a) .coef k ≡ (Residues n) .add ((poly n (take i a)) .coef k) ((x^ i · poly n (drop i a)) .coef k)
+      low k l =
+          coef-poly n a k ∙ ap (residue n) (sym (getD-take i a k 0 l)) ∙ sym (coef-poly n (take i a) k) ∙ sym (add-zero (Residues n) _)
+          ∙ ap ((Residues n) .add ((poly n (take i a)) .coef k)) (sym (coef-shift-below i (poly n (drop i a)) k l))
+
+      high : (k : ℕ) → i ≤ k → (poly n a) .coef k ≡ (Residues n) .add ((poly n (take i a)) .coef k) ((x^ i · poly n (drop i a)) .coef k)
+      high k l =
+          coef-poly n a k ∙ ap (λ (j : ℕ). residue n (getD a j 0)) (let e : k ≡ i + (k - i) = omega arith in e)
+          ∙ ap (residue n) (sym (getD-drop i a (k - i) 0)) ∙ sym (coef-poly n (drop i a) (k - i)) ∙ sym (coef-shift i (poly n (drop i a)) k l)
+          ∙ sym (zero-add (Residues n) _)
+          ∙ ap (λ c. (Residues n) .add c ((x^ i · poly n (drop i a)) .coef k))
+          (sym (below-poly n (take i a) .high k (omega (arith, length-take i a))))

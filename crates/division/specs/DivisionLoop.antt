@@ -1,24 +1,24 @@
--- Division of arrays by an array that a unit makes monic (`MonicBy`): `DividedBy`, what holds of quotient and remainder; the loop of `divide_by`.
--- Proves that the loop, which takes the highest term away turn by turn, ends as it should, what a division that comes out even gives, and how many
--- terms the quotient has. Assumes nothing.
+-- Division of arrays by an array that a unit makes monic (`MonicBy`): `DividedBy`, what holds of quotient and remainder; the loop of `divide_in_place`.
+-- Proves that the loop, which takes the highest term away turn by turn, ends as it should, and what a division that comes out even gives. Assumes nothing.
 use mathlib.Core.Path.{_≡_, sym, _∙_, ap, ap₂}
 use mathlib.Core.List.{List}
 use Prim.Native.Nat.{ℕ, suc, _≤_, _<_, _-_, _%_, _+_, _*_}
+use native.Mathlib.Nat.{sub-zero, mod-self}
 use native.Mathlib.Omega.{arith}
 use lib.ListN.{getD, set, replicate}
 use lib.Seq.{getD-set-other}
-use Rattle.algebra.specs.Ring.{add-zero, linear1}
+use Rattle.algebra.specs.Ring.{add-zero}
 use Rattle.algebra.specs.Identities.{con, _⊕_, _⊖_, _⊗_, _≈_, solve}
 use Rattle.algebra.specs.Residues.{residue, residue-mul, residue-mod}
 use Rattle.algebra.specs.PolynomialRing.{_+ᴿ_, _·_, -ᴿ_, 𝟎, constant, constant-mul}
-use Rattle.algebra.specs.Degree.{Below, Monic, below-𝟎, below-up, below-add, below-neg, below-constant-mul, below-factor, monic-mul, monic-pow-x}
+use Rattle.algebra.specs.Degree.{Below, Monic, below-𝟎, below-up, monic-mul, monic-pow-x}
 use Rattle.algebra.specs.Division.{below-top, divided-unique}
 use Rattle.algebra.specs.CoefficientLists.{ℤ[x]/, poly, Reduced, coef-poly, 𝓩[x]/}
 use Rattle.algebra.specs.ListShapes.{getD-zeros}
 use Rattle.algebra.specs.Monomials.{x^}
 use Rattle.arrays.specs.Represents.{Represents, zeros}
 use Rattle.arrays.specs.Terms.{term-set}
-use Rattle.modular.specs.Multiples.{one-multiple, negative-multiple}
+use Rattle.modular.specs.Multiples.{one-multiple, negative-multiple, nothing-represented}
 
 -- unit·b is monic of degree d, and b has no term above d
 pub record MonicBy (n : ℕ) (b : List ℕ) (d unit : ℕ) : Type 0 where
@@ -60,7 +60,7 @@ module _ (n : ℕ) (a b : List ℕ) where
       pos = omega (arith, ha .low 0)
 
   -- c·x^k goes into the quotient and c·x^k·b away from what is left, where c is unit times the coefficient j = k + d, the top one
-  module _ {d unit : ℕ} (by : MonicBy n b d unit) (q w u : List ℕ) (i j k c : ℕ) (next : i ≡ suc j) (degrees : j ≡ k + d)
+  module _ {d unit : ℕ} (by : MonicBy n b d unit) (q w : List ℕ) (i j k c : ℕ) (next : i ≡ suc j) (degrees : j ≡ k + d)
       (is : c ≡ getD w j 0 * unit % n) (low : c < n) where
     abbrev top : ℤ[x]/ n
     top = constant (residue n c)
@@ -78,9 +78,9 @@ module _ (n : ℕ) (a b : List ℕ) where
         (constant (residue n (getD w j 0))) (constant (residue n unit)) (x^ k) (poly n b)
         ∙ ap (λ e. constant e · (x^ k · (constant (residue n unit) · poly n b))) (sym (coef-poly n w j))
 
-    pub division-more : PartialDivision n a b d i q w → Represents n u (poly n w +ᴿ constant (residue n (n - c)) · (x^ k · poly n b))
+    pub division-more : {u : List ℕ} → PartialDivision n a b d i q w → Represents n u (poly n w +ᴿ constant (residue n (n - c)) · (x^ k · poly n b))
         → PartialDivision n a b d j (set q k c) u
-    division-more p hu = record {
+    division-more {u} p hu = record {
       limit = omega (arith, p .limit);
       quotient = term .reduced;
       free = λ m l. getD-set-other q k m c 0 (omega arith) ∙ p .free m (omega arith);
@@ -101,6 +101,10 @@ module _ (n : ℕ) (a b : List ℕ) where
         fewer : Below (k + d) (poly n w +ᴿ -ᴿ (constant (poly n w .coef (k + d)) · (x^ k · (constant (residue n unit) · poly n b))))
         fewer = below-top (monic-mul (monic-pow-x k) (by .monic)) (poly n w) (below-up (omega arith) (p .small))
 
+    -- where c is 0 there is nothing to take away
+    pub division-passed : c ≡ 0 → PartialDivision n a b d i q w → PartialDivision n a b d j (set q k c) w
+    division-passed e p = division-more p (nothing-represented (n - c) (x^ k · poly n b) (p .remainder) (rw (e, sub-zero) (mod-self n)))
+
   pub division-done : {d i : ℕ} {q w : List ℕ} → PartialDivision n a b d i q w → i ≤ d → DividedBy n a b d q w
   division-done p l = record { quotient = p .quotient; remainder = p .remainder; law = p .law; small = below-up l (p .small) }
 
@@ -109,16 +113,3 @@ module _ (n : ℕ) (a b : List ℕ) where
       → (poly n q ≡ k) × (poly n r ≡ 𝟎)
   divided-exactly {d} {q} {r} m h k e =
       divided-unique m (poly n q) (poly n r) k 𝟎 (h .small) (below-𝟎 d) (h .law ∙ sym e ∙ sym (add-zero (𝓩[x]/ n) (k · poly n b)))
-
-  -- a has s terms: the quotient has s − d, for the monic unit·b times it is unit·(a − r)
-  pub quotient-terms : {d unit s : ℕ} {q r : List ℕ} → MonicBy n b d unit → Below s (poly n a) → DividedBy n a b d q r → Below (s - d) (poly n q)
-  quotient-terms {d} {unit} {s} {q} {r} by few h =
-      below-factor (by .monic) (s - d) (poly n q)
-      (rw multiple
-      (below-constant-mul (residue n unit) (below-add (below-up (omega arith) few) (below-neg (below-up (omega arith) (h .small))))))
-    where
-      multiple : poly n q · (constant (residue n unit) · poly n b) ≡ constant (residue n unit) · (poly n a +ᴿ -ᴿ poly n r)
-      multiple =
-          linear1 (𝓩[x]/ n) (constant (residue n unit)) (h .law)
-          (solve (𝓩[x]/ n) 5 (λ q u b a r. q ⊗ (u ⊗ b) ⊖ u ⊗ (a ⊖ r) ≈ u ⊗ (q ⊗ b ⊕ r ⊖ a)) tt
-          (poly n q) (constant (residue n unit)) (poly n b) (poly n a) (poly n r))

@@ -1,38 +1,38 @@
-// Division of arrays modulo n by what a unit makes monic, built of the one loop of `modular`.
+// Division of arrays modulo n by a monic polynomial, built of the one loop of `modular`.
 // All is public for the crates above, and no entry point of the library.
+ghost use mathlib.Core.Path.{_≡_};
 ghost use Prim.Native.Nat.{_<_, _≤_};
+ghost use lib.ListN.{replicate};
 ghost use Rattle.algebra.specs.Degree.{Below, Monic};
 ghost use Rattle.algebra.specs.CoefficientLists.{poly, Reduced};
-ghost use Rattle.division.specs.DivisionLoop.{DividedBy, MonicBy};
+ghost use Rattle.division.specs.DivisionLoop.{DividedBy};
 use arrays::Coefs;
-use modular::add_in_place;
-use residues::times;
+use modular::add_by;
+use residues::reciprocal;
 
 pub struct Divided {
     pub quotient: Coefs,
     pub remainder: Coefs,
 }
 
-// a divided by b, where a has s terms, b is of degree d, and unit is the inverse of its leading coefficient.
-pub fn divide_by(a: Coefs, s: usize, b: Coefs, d: usize, unit: u16, n: u16) -> Divided
-    requires { ⌜ Reduced n 33 a × Reduced n 33 b × (s ≤ 33) × (d < 33) × Below s (poly n a) × MonicBy n b d unit ⌝ }
-    ensures { λ r. ⌜ DividedBy n a b d (r .quotient) (r .remainder) ⌝ }
+// a divided by b in place, where a has s terms and b is monic of degree d: the quotient goes into q, which is 0, and a becomes the remainder.
+pub fn divide_in_place(a: &mut [u16], q: &mut [u16], s: usize, b: &[u16], d: usize, n: u16)
+    requires { ⌜ Reduced n 33 (now a) × (now q ≡ replicate 33 0) × Reduced n 33 (now b) × (s ≤ 33) × (d < 33) × Below s (poly n (now a))
+        × Monic d (poly n (now b)) ⌝ }
+    ensures { λ _. ⌜ DividedBy n (now (a .entry)) (now (b .entry)) d (now (q .exit)) (now (a .exit)) ⌝ }
 {
     let terms = d + 1;
-    let mut q = [0u16; 33];
-    let mut w = a;
+    let w = reciprocal(n);
     let mut i = s;
     while d < i {
         let top = i - 1;
         let k = top - d;
-        let c = times(w[top], unit, n);
+        let c = a[top];
         q[k] = c;
-        add_in_place(&mut w[k..], n - c, &b, terms, n);
+        if c != 0 {
+            add_by(&mut a[k..], n - c, b, terms, n, w);
+        }
         i = top;
-    }
-    Divided {
-        quotient: q,
-        remainder: w,
     }
 }
 
@@ -41,5 +41,11 @@ pub fn divide(a: Coefs, s: usize, b: Coefs, d: usize, n: u16) -> Divided
     requires { ⌜ Reduced n 33 a × Reduced n 33 b × (s ≤ 33) × (d < 33) × Below s (poly n a) × Monic d (poly n b) ⌝ }
     ensures { λ r. ⌜ DividedBy n a b d (r .quotient) (r .remainder) ⌝ }
 {
-    divide_by(a, s, b, d, 1, n)
+    let mut q = [0u16; 33];
+    let mut w = a;
+    divide_in_place(&mut w, &mut q, s, &b, d, n);
+    Divided {
+        quotient: q,
+        remainder: w,
+    }
 }

@@ -11,6 +11,7 @@ pub mod Settings
 pub mod LastMember
 pub mod MonicDivisors
 pub mod Irreducible
+pub mod SquareFree
 pub mod IrreducibleDivisors
 pub mod Multiplicity
 pub mod UniqueFactorisation

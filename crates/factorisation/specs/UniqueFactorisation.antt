@@ -1,10 +1,10 @@
 -- Factorisations of f over a field into powers G^m of different irreducible G, as lists of pairs (G, m).
--- Proves that G is coprime to the product of the other powers, that two factorisations of f have the same members, and that they are equal
--- where both are in order by a strict order of the bases. Assumes nothing.
+-- Proves that G is coprime to the product of the other powers, that two factorisations of f have the same members, that they are equal where both are in
+-- order by a strict order of the bases, and that a power has one base. Assumes nothing.
 use mathlib.Core.Path.{_≡_, refl, sym, _∙_, ap}
 use mathlib.Core.List.{List, [], _∷_, map, List·Memᴰ·cases-cons, Memᴰ·cast}
 use mathlib.Core.List.{List·Memᴰ·head as here, List·Memᴰ·tail as there}
-use mathlib.Core.Logic.{_⊎_, inl, inr, _≢_}
+use mathlib.Core.Logic.{_⊎_, inl, inr, _≢_, ⊎-elim}
 use Prim.Native.Nat.{ℕ, _≤_}
 use Rattle.algebra.specs.Ring.{CommRing, mul-left-comm}
 use Rattle.algebra.specs.Divisibility.{
@@ -15,6 +15,7 @@ use Rattle.algebra.specs.Divisibility.{
   pow-divides,
   product,
   product-nil,
+  product-one,
   product-cons,
   divides-mul-right,
   coprime-sym,
@@ -25,7 +26,7 @@ use Rattle.algebra.specs.Divisibility.{
 }
 use Rattle.algebra.specs.PolynomialRing.{Poly, PolyRing, _·_}
 use Rattle.algebra.specs.Fields.{Field}
-use Rattle.lists.specs.Members.{_∈_, All, all-tail}
+use Rattle.lists.specs.Members.{_∈_, All, all-cons, all-tail}
 use Rattle.lists.specs.InOrder.{StrictOrder, InOrder, in-order-unique}
 use Rattle.factorisation.specs.Irreducible.{Irreducible, irreducible-prime, same-or-coprime, different-coprime}
 use Rattle.factorisation.specs.Multiplicity.{Multiplicity, coprime-not-divides, multiplicity-unique}
@@ -154,3 +155,17 @@ module _ {R : Type 0} {𝓡 : CommRing R} where
     factorisation-unique O {l = l} {m} l-is m-is h k =
         in-order-unique (record { irreflexive = λ b. O .irreflexive b; transitive = λ b c. O .transitive b c }) l m h k (same-members l-is m-is)
         (same-members m-is l-is)
+
+    -- a power of an irreducible polynomial is one of no other
+    pub same-base : {G H : Poly 𝓡} {k m : ℕ} → Irreducible G → Irreducible H → 1 ≤ k → 1 ≤ m → pow (PolyRing 𝓡) G k ≡ pow (PolyRing 𝓡) H m → G ≡ H
+    same-base {G} {H} {k} {m} I J l u e =
+        ⊎-elim (λ q. ap (λ P. P .0) q) (λ i. elim i [ ])
+        (List·Memᴰ·cases-cons (same-members (alone I l e) (alone J u refl) (G, k) (here refl)))
+      where
+        alone : {f K : Poly 𝓡} {j : ℕ} → Irreducible K → 1 ≤ j → pow (PolyRing 𝓡) K j ≡ f → PowersOf f ((K, j) ∷ [])
+        alone {K = K} {j} I l e = record {
+          irreducible = all-cons I (λ P i. elim i [ ]);
+          positive = all-cons l (λ P i. elim i [ ]);
+          different = ((λ P i. elim i [ ]), tt);
+          multiplies = product-one (PolyRing 𝓡) (pow (PolyRing 𝓡) K j) ∙ e;
+        }

@@ -135,7 +135,7 @@ module _ {n : ℕ} where
       ∙ agree-next (rest (a .coef 0) (tail a) b) _ _ k (product-at k (tail a) b)
       ∙ sym (ap (λ f. f .coef (suc k)) (right-side a b))
 
-  derivative-mul : (a b : ℤ[x]/ n) → derivative (a · b) ≡ derivative a · b +ᴿ a · derivative b
+  pub derivative-mul : (a b : ℤ[x]/ n) → derivative (a · b) ≡ derivative a · b +ᴿ a · derivative b
   derivative-mul a b = poly-ext (λ k. product-at k a b)
 
   pub derivative-pow : (a : ℤ[x]/ n) (m : ℕ)

@@ -1,8 +1,8 @@
 -- The value of a polynomial a at y: what a leaves when it is divided by x − y.
--- Proves that the values at y are a homomorphism that takes x to y and a constant to itself, and that x − y divides a where the value at y
+-- Proves that the values at y are a homomorphism that takes x to y and a constant to itself, and that x − y divides a exactly where the value at y
 -- is 𝟘. Over any ring with decided equality. Assumes nothing.
 use mathlib.Core.Path.{_≡_, refl, sym, _∙_, ap}
-use Rattle.algebra.specs.Ring.{CommRing, zero-mul}
+use Rattle.algebra.specs.Ring.{CommRing, zero-mul, add-zero, neg-zero}
 use Rattle.algebra.specs.Divisibility.{_∣_, divides-refl}
 use Rattle.algebra.specs.PolynomialRing.{
   Poly,
@@ -80,3 +80,7 @@ module _ {R : Type 0} (𝓡 : CommRing R) (decide : Discrete R) (y : R) where
   pub root-divides : (a : Poly 𝓡) → evaluate a ≡ 𝓡 .𝟘 → _∣_ (PolyRing 𝓡) (linear y) a
   root-divides a e =
       divides-congruent (PolyRing 𝓡) (congruent-value a) (rw (e, constant-zero 𝓡) (𝟎, zero-mul (PolyRing 𝓡) (linear y)))
+
+  -- and a linear divisor a root
+  pub divides-root : (a : Poly 𝓡) → _∣_ (PolyRing 𝓡) (linear y) a → evaluate a ≡ 𝓡 .𝟘
+  divides-root a d = value-unique a (𝓡 .𝟘) (rw (constant-zero 𝓡, neg-zero (PolyRing 𝓡), add-zero (PolyRing 𝓡) a) d)

@@ -1,26 +1,18 @@
 -- Elements that stay as they are under v ↦ v^p modulo Q, over ℤ/p, p a prime: `Fixed Q v`.
--- Proves that with v its powers, what differs from it by a constant, and what is congruent to it are fixed. Assumes nothing.
+-- Proves that with v what differs from it by a constant is fixed. Assumes nothing.
 use mathlib.Core.Path.{refl, _∙_, ap}
 use Prim.Native.Nat.{ℕ}
-use Rattle.algebra.specs.Divisibility.{pow-swap}
 use Rattle.algebra.specs.Residues.{ℤ/, Residues}
 use Rattle.algebra.specs.PolynomialRing.{_+ᴿ_, -ᴿ_, constant, constant-neg}
 use Rattle.algebra.specs.Fields.{Prime}
 use Rattle.algebra.specs.CoefficientLists.{ℤ[x]/, 𝓩[x]/}
-use Rattle.algebra.specs.Congruence.{Congruent, congruent-equal, congruent-sym, congruent-trans, congruent-add, congruent-pow}
+use Rattle.algebra.specs.Congruence.{Congruent, congruent-equal, congruent-trans, congruent-add}
 use Rattle.frobenius.specs.FrobeniusPowers.{_^ᴿ_, power-add, power-constant}
 
 abbrev pub Fixed : {p : ℕ} → ℤ[x]/ p → ℤ[x]/ p → Type 0
 Fixed {p} Q v = Congruent (𝓩[x]/ p) Q (v ^ᴿ p) v
 
 module _ {p : ℕ} (Q v : ℤ[x]/ p) where
-  pub fixed-power : (k : ℕ) → Fixed Q v → Fixed Q (v ^ᴿ k)
-  fixed-power k h = rw (pow-swap (𝓩[x]/ p) v k p) (congruent-pow (𝓩[x]/ p) k h)
-
-  pub fixed-as : (w : ℤ[x]/ p) → Congruent (𝓩[x]/ p) Q w v → Fixed Q v → Fixed Q w
-  fixed-as w e h =
-      congruent-trans (𝓩[x]/ p) (congruent-pow (𝓩[x]/ p) p e) (congruent-trans (𝓩[x]/ p) h (congruent-sym (𝓩[x]/ p) e))
-
   pub fixed-less : Prime p → (c : ℤ/ p) → Fixed Q v → Fixed Q (v +ᴿ -ᴿ constant c)
   fixed-less P c h =
       rw (← constant-neg c)

@@ -1,11 +1,12 @@
 -- The map v ↦ v^p on polynomials over ℤ/p, p a prime.
 -- Proves that it adds and keeps the constants (Fermat), so that it is linear and given by the images (x^p)^i of the x^i, and that v^p − v is given
--- by the images (x^p)^i − x^i. Assumes nothing.
+-- by the images (x^p)^i − x^i; and that (v − c)^(p^j) = v^(p^j) − c. Assumes nothing.
 use mathlib.Core.Path.{_≡_, sym, _∙_, ap, ap₂}
-use Prim.Native.Nat.{ℕ, zero, suc}
-use Rattle.algebra.specs.Divisibility.{pow, pow-swap, pow-of-zero, pow-of-one, pow-of-product}
+use Prim.Native.Nat.{ℕ, zero, suc, _^_}
+use native.Mathlib.Nat.{mul-comm, pow-zero as pow-zeroℕ, pow-suc as pow-sucℕ}
+use Rattle.algebra.specs.Divisibility.{pow, pow-one, pow-mul, pow-swap, pow-of-zero, pow-of-one, pow-of-product}
 use Rattle.algebra.specs.Residues.{ℤ/, residue, Residues, residue-zero, residue-suc, residue-value}
-use Rattle.algebra.specs.PolynomialRing.{_+ᴿ_, _·_, -ᴿ_, x, constant}
+use Rattle.algebra.specs.PolynomialRing.{_+ᴿ_, _·_, -ᴿ_, x, constant, constant-neg}
 use Rattle.algebra.specs.Monomials.{x^}
 use Rattle.algebra.specs.Degree.{Below}
 use Rattle.algebra.specs.Leading.{poly-discrete}
@@ -41,6 +42,24 @@ module _ {p : ℕ} (P : Prime p) where
 
   pub power-constant : (c : ℤ/ p) → constant c ^ᴿ p ≡ constant c
   power-constant c = sym (keeps-pow (constants (Residues p)) c p) ∙ ap constant (fermat c)
+
+  power-difference : (v : ℤ[x]/ p) (c : ℤ/ p) → (v +ᴿ -ᴿ constant c) ^ᴿ p ≡ v ^ᴿ p +ᴿ -ᴿ constant c
+  power-difference v c =
+      power-add v (-ᴿ constant c)
+      ∙ ap (λ a. v ^ᴿ p +ᴿ a) (ap (λ a. a ^ᴿ p) (sym (constant-neg c)) ∙ power-constant ((Residues p) .neg c) ∙ constant-neg c)
+
+  power-next : (a : ℤ[x]/ p) (j : ℕ) → a ^ᴿ (p ^ suc j) ≡ (a ^ᴿ (p ^ j)) ^ᴿ p
+  power-next a j = ap (λ k. a ^ᴿ k) (pow-sucℕ p j ∙ mul-comm (p ^ j) p) ∙ pow-mul (𝓩[x]/ p) a p (p ^ j)
+
+  -- the binomial v − c to the power p^j
+  pub binomial-power : (v : ℤ[x]/ p) (c : ℤ/ p) (j : ℕ) → (v +ᴿ -ᴿ constant c) ^ᴿ (p ^ j) ≡ v ^ᴿ (p ^ j) +ᴿ -ᴿ constant c
+  binomial-power v c zero = once (v +ᴿ -ᴿ constant c) ∙ ap (λ a. a +ᴿ -ᴿ constant c) (sym (once v))
+    where
+      once : (a : ℤ[x]/ p) → a ^ᴿ (p ^ 0) ≡ a
+      once a = ap (λ k. a ^ᴿ k) (pow-zeroℕ p) ∙ pow-one (𝓩[x]/ p) a
+  binomial-power v c (suc j) =
+      power-next (v +ᴿ -ᴿ constant c) j ∙ ap (λ a. a ^ᴿ p) (binomial-power v c j) ∙ power-difference (v ^ᴿ (p ^ j)) c
+      ∙ ap (λ a. a +ᴿ -ᴿ constant c) (sym (power-next v j))
 
   power-multiple : (c : ℤ/ p) (v : ℤ[x]/ p) → (constant c · v) ^ᴿ p ≡ constant c · v ^ᴿ p
   power-multiple c v = pow-of-product (𝓩[x]/ p) (constant c) v p ∙ ap (λ d. d · v ^ᴿ p) (power-constant c)

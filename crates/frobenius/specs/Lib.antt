@@ -1,7 +1,9 @@
 pub mod Evaluation
 pub mod LinearMaps
+pub mod ValuesOfElements
 pub mod Frobenius
 pub mod FrobeniusPowers
+pub mod NoRoots
 pub mod FixedElements
 pub mod Roots
 pub mod Span
@@ -11,8 +13,7 @@ pub mod DifferenceProducts
 pub mod SplittingElements
 pub mod Unsplit
 pub mod PrimaryPowers
-pub mod SameFactors
 pub mod PowerDependencies
 pub mod Derivatives
 pub mod PowerRoots
-pub mod PowerBases
+pub mod SquareFreeQuotients

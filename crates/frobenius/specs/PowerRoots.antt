@@ -1,10 +1,10 @@
 -- p-th powers of polynomials over ℤ/p, p a prime.
--- Proves that h^p has the coefficients of h at the multiples of p and no others, so that h is found again from h^p, with its degree; and that a
--- polynomial with derivative 𝟎 is the p-th power of the polynomial of its coefficients at the multiples of p. Assumes nothing.
-use mathlib.Core.Path.{_≡_, refl, sym, _∙_, ap, ap₂}
-use mathlib.Core.Logic.{_≢_, ∥∥₁-map}
+-- Proves that h^p has the coefficients of h at the multiples of p and no others, so that its degree is p times that of h; and that a polynomial with
+-- derivative 𝟎 is the p-th power of the polynomial of its coefficients at the multiples of p. Assumes nothing.
+use mathlib.Core.Path.{_≡_, sym, _∙_, ap, ap₂}
+use mathlib.Core.Logic.{_≢_}
 use Prim.Native.Nat.{ℕ, zero, suc, _<_, _/_, _%_, _-_, _+_, _*_}
-use native.Mathlib.Nat.{suc-mul, zero-mul, mod-lt, mod-eq-of-lt, div-add-mod, le-mul-of-pos-right, mul-le-mul-right, pos-of-ne-zero, mul-comm}
+use native.Mathlib.Nat.{suc-mul, zero-mul, mod-lt, mod-eq-of-lt, div-add-mod, mul-le-mul-right, pos-of-ne-zero, mul-comm}
 use native.Mathlib.Decide.{ℕ-discrete}
 use native.Mathlib.Omega.{arith}
 use Rattle.algebra.specs.Ring.{add-zero, zero-add}
@@ -83,9 +83,6 @@ module _ {p : ℕ} (P : Prime p) where
   power-off : (h : ℤ[x]/ p) (k : ℕ) → k % p ≢ 0 → (h ^ᴿ p) .coef k ≡ (Residues p) .𝟘
   power-off h k n = ap ((h ^ᴿ p) .coef) (whole k) ∙ power-between (k / p) (k % p) h (pos-of-ne-zero n) (mod-lt k (prime-pos P))
 
-  pub power-injective : (g h : ℤ[x]/ p) → g ^ᴿ p ≡ h ^ᴿ p → g ≡ h
-  power-injective g h e = poly-ext (λ i. sym (power-at i g) ∙ ap (λ a. a .coef (i * p)) e ∙ power-at i h)
-
   -- ---- polynomials with derivative 𝟎
 
   -- k times a coefficient is 𝟘, and k is not
@@ -103,15 +100,6 @@ module _ {p : ℕ} (P : Prime p) where
       at k (yes z) = let s : k ≡ k / p * p = omega (arith, whole k) in
           ap ((h ^ᴿ p) .coef) s ∙ power-at (k / p) h ∙ same (k / p) ∙ ap (a .coef) (sym s)
       at k (no n) = power-off h k n ∙ sym (coefficient-off a e k n)
-
-  pub root-exists : (a : ℤ[x]/ p) → derivative a ≡ 𝟎 → (h : ℤ[x]/ p) × (h ^ᴿ p ≡ a)
-  root-exists a e = (root, power-of-root a root e (λ i. refl))
-    where
-      root : ℤ[x]/ p
-      root = record {
-        coef = λ i. a .coef (i * p);
-        bounded = ∥∥₁-map (a .bounded) (λ b. (b .0, λ i l. b .1 (i * p) (omega (arith, le-mul-of-pos-right i (prime-pos P)))));
-      }
 
   pub degree-multiple : {a : ℤ[x]/ p} {e : ℕ} → Monic e a → derivative a ≡ 𝟎 → e / p * p ≡ e
   degree-multiple {a} {e} m z = at (ℕ-discrete (e % p) 0)

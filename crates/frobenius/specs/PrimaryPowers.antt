@@ -1,18 +1,18 @@
 -- Powers Q = G^m of one irreducible polynomial G.
--- Proves that m times the degree of G is that of Q, and that a monic polynomial over ℤ/p with no splitting element is such a power. Assumes nothing.
+-- Proves that m is 1 where Q has no square factor, and that a monic polynomial over ℤ/p with no splitting element is such a power. Assumes nothing.
 use mathlib.Core.Path.{_≡_, sym, _∙_, ap}
-use mathlib.Core.Logic.{_≢_}
 use Prim.Native.Nat.{ℕ, zero, suc, _≤_, _+_, _*_}
 use native.Mathlib.Nat.{pos-of-ne-zero, mul-pos}
 use native.Mathlib.Omega.{arith}
 use Rattle.algebra.specs.Ring.{CommRing, mul-one}
-use Rattle.algebra.specs.Divisibility.{Coprime, pow, pow-zero, coprime-sym, coprime-pow}
+use Rattle.algebra.specs.Divisibility.{Coprime, pow, pow-zero, pow-one, pow-suc, coprime-sym, coprime-pow}
 use Rattle.algebra.specs.PolynomialRing.{Poly, PolyRing, _·_}
 use Rattle.algebra.specs.Degree.{Monic, monic-zero, monic-pow}
 use Rattle.algebra.specs.Leading.{monic-cofactor}
 use Rattle.algebra.specs.Fields.{Prime, residue-field, residue-discrete}
-use Rattle.factorisation.specs.MonicDivisors.{monic-nonzero, monic-degree}
+use Rattle.factorisation.specs.MonicDivisors.{monic-nonzero}
 use Rattle.factorisation.specs.Irreducible.{Irreducible, irreducible-prime}
+use Rattle.factorisation.specs.SquareFree.{SquareFree}
 use Rattle.factorisation.specs.Multiplicity.{Multiplicity, rest-coprime, multiplicity}
 use Rattle.factorisation.specs.IrreducibleDivisors.{IrreducibleDivisor, irreducible-divisor}
 use Rattle.frobenius.specs.Unsplit.{Unsplit, unsplit-indivisible}
@@ -27,9 +27,19 @@ module _ {R : Type 0} {𝓡 : CommRing R} where
     pub positive : 1 ≤ m
     pub multiplies : pow (PolyRing 𝓡) G m ≡ Q
 
-  -- m·deg G = deg Q
-  pub primary-degree : 𝓡 .𝟙 ≢ 𝓡 .𝟘 → {d : ℕ} {Q : Poly 𝓡} → Monic d Q → (S : PrimaryPower Q) → S .m * S .irreducible .degree ≡ d
-  primary-degree nontrivial n S = monic-degree nontrivial (rw (S .multiplies) at (monic-pow (S .irreducible .monic) (S .m))) n
+  -- without square factors m is 1
+  pub squarefree-primary : {Q : Poly 𝓡} → PrimaryPower Q → SquareFree Q → Irreducible Q
+  squarefree-primary {Q} S free = go (S .m) (S .positive) (S .multiplies)
+    where
+      go : (m : ℕ) → 1 ≤ m → pow (PolyRing 𝓡) (S .G) m ≡ Q → Irreducible Q
+      go zero l e = absurd (omega arith)
+      go (suc zero) l e = rw (sym (pow-one (PolyRing 𝓡) (S .G)) ∙ e) at (S .irreducible)
+      go (suc (suc m)) l e =
+          absurd (free (S .G) (S .irreducible) (
+            pow (PolyRing 𝓡) (S .G) m,
+            (PolyRing 𝓡) .*-comm (pow (PolyRing 𝓡) (S .G) m) (S .G · S .G) ∙ (PolyRing 𝓡) .*-assoc (S .G) (S .G) (pow (PolyRing 𝓡) (S .G) m)
+                ∙ sym (pow-suc (PolyRing 𝓡) (S .G) (suc m) ∙ ap (λ a. S .G · a) (pow-suc (PolyRing 𝓡) (S .G) m)) ∙ e,
+          ))
 
 module _ {p : ℕ} (P : Prime p) {d : ℕ} {Q : ℤ[x]/ p} (monic : Monic d Q) (t : IrreducibleDivisor Q) where
   module _ (M : Multiplicity (𝓩[x]/ p) (t .G) Q) where
@@ -45,7 +55,7 @@ module _ {p : ℕ} (P : Prime p) {d : ℕ} {Q : ℤ[x]/ p} (monic : Monic d Q) (
     coprime = coprime-sym (𝓩[x]/ p) (rest-coprime (irreducible-prime (residue-field p P) (t .irreducible)) M)
 
   -- Q = w·G^k, where G does not divide w; w is 𝟏 if it cannot be of degree 1 or more
-  pub primary-power : ((M : Multiplicity (𝓩[x]/ p) (t .G) Q) (j : ℕ) → Monic (suc j) (M .w) → Coprime (𝓩[x]/ p) (M .w) (t .G) → ⊥) → PrimaryPower Q
+  primary-power : ((M : Multiplicity (𝓩[x]/ p) (t .G) Q) (j : ℕ) → Monic (suc j) (M .w) → Coprime (𝓩[x]/ p) (M .w) (t .G) → ⊥) → PrimaryPower Q
   primary-power alone = go (monic-cofactor (residue-discrete p) (residue-field p P .oneNeZero) {d = d} (M .w) power monic-power (rw (M .law) monic))
     where
       M : Multiplicity (𝓩[x]/ p) (t .G) Q

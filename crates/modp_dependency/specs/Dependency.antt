@@ -1,5 +1,5 @@
--- The search of `least_dependency`: `Images p d images`, what it is given; `DependencyFound`, what it finds; its loop, `Searching`: the rows span the images of
--- x^first, .., x^(i − 1), and these are independent; and `InHand`: the image of x^i is being reduced by them.
+-- The search of `least_dependency`: `Images p count d images`, what it is given; `DependencyFound`, what it finds; its loop, `Searching`: the rows span the
+-- images of x^first, .., x^(i − 1), and these are independent; and `InHand`: the image of x^i is being reduced by them.
 -- Proves that the loop begins so, goes on so, and ends with the least dependency or with none. Assumes nothing.
 use mathlib.Core.Path.{_≡_, _∙_}
 use mathlib.Core.Bool.{Bool, true, false, true≢false}
@@ -35,45 +35,45 @@ coefsOf images k = (getD images k (record { coefs = [] })) .coefs
 abbrev pub imageOf : (p : ℕ) → List Image → ℕ → ℤ[x]/ p
 imageOf p images k = poly p (coefsOf images k)
 
--- images of the x^k below x^d, in polynomials of degree below d
-pub record Images (p d : ℕ) (images : List Image) : Type 0 where
-  pub reduced : (k : ℕ) → k < d → Reduced p 33 (coefsOf images k)
-  pub small : (k : ℕ) → k < d → Below d (imageOf p images k)
+-- images of the x^k below x^count, in polynomials of degree below d
+pub record Images (p count d : ℕ) (images : List Image) : Type 0 where
+  pub reduced : (k : ℕ) → k < count → Reduced p 33 (coefsOf images k)
+  pub small : (k : ℕ) → k < count → Below d (imageOf p images k)
 
 -- a dependency found
-pub record Least (p : ℕ) (images : List Image) (first d : ℕ) (r : Found) : Type 0 where
+pub record Least (p : ℕ) (images : List Image) (first count : ℕ) (r : Found) : Type 0 where
   pub reduced : Reduced p 33 (r .v)
   pub above : first ≤ r .degree
-  pub within : r .degree < d
-  pub least : LeastDependency (imageOf p images) d first (r .degree) (poly p (r .v))
+  pub within : r .degree < count
+  pub least : LeastDependency (imageOf p images) count first (r .degree) (poly p (r .v))
 
--- the map is injective on the polynomials with terms of degree first to d − 1 where none is found
-pub record DependencyFound (p : ℕ) (images : List Image) (first d : ℕ) (r : Found) : Type 0 where
-  pub found : r .found ≡ true → Least p images first d r
-  pub none : r .found ≡ false → (v : ℤ[x]/ p) → Between first d v → apply (imageOf p images) d v ≡ 𝟎 → v ≡ 𝟎
+-- the map is injective on the polynomials with terms of degree first to count − 1 where none is found
+pub record DependencyFound (p : ℕ) (images : List Image) (first count : ℕ) (r : Found) : Type 0 where
+  pub found : r .found ≡ true → Least p images first count r
+  pub none : r .found ≡ false → (v : ℤ[x]/ p) → Between first count v → apply (imageOf p images) count v ≡ 𝟎 → v ≡ 𝟎
 
-pub record Searching (p : ℕ) (images : List Image) (first d i : ℕ) (rows : List Row) : Type 0 where
+pub record Searching (p : ℕ) (images : List Image) (first count d i : ℕ) (rows : List Row) : Type 0 where
   pub above : first ≤ i
-  pub within : i ≤ d
+  pub within : i ≤ count
   pub slots : length rows ≡ 33
   pub reduced : ReducedRows p rows
-  pub stage : Stage (imageOf p images) d d first (imageAt p rows) (preimageAt p rows) i
+  pub stage : Stage (imageOf p images) count d first (imageAt p rows) (preimageAt p rows) i
 
 -- the image of x^i is in hand, reduced to k terms, unless it is fresh
-pub record InHand (p : ℕ) (images : List Image) (first d i : ℕ) (rows : List Row) (image preimage : List ℕ) (k : ℕ) (fresh : Bool) : Type 0 where
+pub record InHand (p : ℕ) (images : List Image) (first count d i : ℕ) (rows : List Row) (image preimage : List ℕ) (k : ℕ) (fresh : Bool) : Type 0 where
   pub limit : k ≤ 33
-  pub reduced : fresh ≡ false → ReducedTo p (imageOf p images) first d i rows k (record { image = image; preimage = preimage })
+  pub reduced : fresh ≡ false → ReducedTo p (imageOf p images) first count d i rows k (record { image = image; preimage = preimage })
 
-module _ {p : ℕ} {images : List Image} {first d i : ℕ} {rows : List Row} {image preimage : List ℕ} {k : ℕ} where
-  pub none-in-hand : k ≤ 33 → InHand p images first d i rows image preimage k true
+module _ {p : ℕ} {images : List Image} {first count d i : ℕ} {rows : List Row} {image preimage : List ℕ} {k : ℕ} where
+  pub none-in-hand : k ≤ 33 → InHand p images first count d i rows image preimage k true
   none-in-hand l = record { limit = l; reduced = λ q. absurd (true≢false q) }
 
-  pub in-hand : {fresh : Bool} → ReducedTo p (imageOf p images) first d i rows k (record { image = image; preimage = preimage })
-      → InHand p images first d i rows image preimage k fresh
+  pub in-hand : {fresh : Bool} → ReducedTo p (imageOf p images) first count d i rows k (record { image = image; preimage = preimage })
+      → InHand p images first count d i rows image preimage k fresh
   in-hand R = record { limit = R .size .limit; reduced = λ q. R }
 
-pub searching-none : {p : ℕ} {images : List Image} {first d : ℕ} {rows : List Row} → Prime p → first ≤ d → rows ≡ replicate 33 free
-    → Searching p images first d first rows
+pub searching-none : {p : ℕ} {images : List Image} {first count d : ℕ} {rows : List Row} → Prime p → first ≤ count → rows ≡ replicate 33 free
+    → Searching p images first count d first rows
 searching-none {p} {first = first} P l e = rw e (record {
   above = le-refl first;
   within = l;
@@ -83,38 +83,38 @@ searching-none {p} {first = first} P l e = rw e (record {
 })
 
 -- nothing is taken off the image of x^i yet
-pub reduced-none : {p : ℕ} {images : List Image} {first d i : ℕ} {rows : List Row} {x : List ℕ} {k : ℕ} → Prime p → Images p d images → i < d
-    → Searching p images first d i rows → IsMonomial i x → Size (coefsOf images i) k
-    → ReducedTo p (imageOf p images) first d i rows k (record { image = coefsOf images i; preimage = x })
-reduced-none {p} {images} {first} {d} {i} {k = k} P I l S X z = record {
+pub reduced-none : {p : ℕ} {images : List Image} {first count d i : ℕ} {rows : List Row} {x : List ℕ} {k : ℕ} → Prime p → Images p count d images → i < count
+    → Searching p images first count d i rows → IsMonomial i x → Size (coefsOf images i) k
+    → ReducedTo p (imageOf p images) first count d i rows k (record { image = coefsOf images i; preimage = x })
+reduced-none {p} {images} {first} {count} {d} {i} {k = k} P I l S X z = record {
   reach = reach;
   image = I .reduced i l;
   size = z;
   preimage = monomial-represents X (P .large) .reduced;
-  reducing = reducing-down (imageOf p images) d d first reach (below-size p z)
-      (rw (monomial-represents X (P .large) .is) (reducing-none (imageOf p images) d d first (S .above) l));
+  reducing = reducing-down (imageOf p images) count d first reach (below-size p z)
+      (rw (monomial-represents X (P .large) .is) (reducing-none (imageOf p images) count d first (S .above) l));
 }
   where
     reach : k ≤ d
     reach = size-small (I .reduced i l) (I .small i l) z
 
 -- the image of x^i is reduced to v, with k terms
-module _ {p : ℕ} (P : Prime p) {images : List Image} {first d i : ℕ} {rows : List Row} {k : ℕ} {v : Row} (l : i < d)
-    (S : Searching p images first d i rows) (R : ReducedTo p (imageOf p images) first d i rows k v) where
-  pub searching-found : k ≡ 0 → DependencyFound p images first d (record { found = ltb i d; degree = i; v = v .preimage })
+module _ {p : ℕ} (P : Prime p) {images : List Image} {first count d i : ℕ} {rows : List Row} {k : ℕ} {v : Row} (l : i < count)
+    (S : Searching p images first count d i rows) (R : ReducedTo p (imageOf p images) first count d i rows k v) where
+  pub searching-found : k ≡ 0 → DependencyFound p images first count (record { found = ltb i count; degree = i; v = v .preimage })
   searching-found e = record {
     found = λ q. record {
       reduced = R .preimage;
       above = S .above;
       within = l;
-      least = stage-found (imageOf p images) d d first (S .stage) (rw e at (R .reducing)) (below-zero (rw e at (below-size p (R .size))));
+      least = stage-found (imageOf p images) count d first (S .stage) (rw e at (R .reducing)) (below-zero (rw e at (below-size p (R .size))));
     };
-    none = λ q. absurd (omega (arith, ltb-false i d q));
+    none = λ q. absurd (omega (arith, ltb-false i count q));
   }
 
   -- its slot is free
   pub searching-more : {r : List Row} → 0 < k → getD ((getD rows (k - 1) past) .image) (k - 1) 0 ≡ 0 → Stored p rows v (k - 1) r
-      → Searching p images first d (i + 1) r
+      → Searching p images first count d (i + 1) r
   searching-more pos e h = record {
     above = omega (arith, S .above);
     within = omega arith;
@@ -128,9 +128,9 @@ module _ {p : ℕ} (P : Prime p) {images : List Image} {first d i : ℕ} {rows :
       next : suc (k - 1) ≡ k
       next = omega arith
 
-pub searching-done : {p : ℕ} {images : List Image} {first d i : ℕ} {rows : List Row} {v : List ℕ} → d ≤ i → Searching p images first d i rows
-    → DependencyFound p images first d (record { found = ltb i d; degree = i; v = v })
-searching-done {d = d} {i} l S = record { found = λ q. absurd (omega (arith, ltb-true i d q)); none = λ q. rw e at (S .stage .injective) }
+pub searching-done : {p : ℕ} {images : List Image} {first count d i : ℕ} {rows : List Row} {v : List ℕ} → count ≤ i → Searching p images first count d i rows
+    → DependencyFound p images first count (record { found = ltb i count; degree = i; v = v })
+searching-done {count = count} {i = i} l S = record { found = λ q. absurd (omega (arith, ltb-true i count q)); none = λ q. rw e at (S .stage .injective) }
   where
-    e : i ≡ d
+    e : i ≡ count
     e = omega (arith, S .within)

@@ -2,3 +2,4 @@ pub mod StoredRows
 pub mod Reduction
 pub mod Storing
 pub mod Dependency
+pub mod RemainderImages

@@ -1,5 +1,5 @@
 -- The reduction of the image of x^i by the rows: `TakenOff`, its leading term is taken off by the row in its slot, and as much off the preimage;
--- `ReducedTo p t o d i rows k r`, r is what the rows have left of the image under t and of x^i so far, with an image of k terms.
+-- `ReducedTo p t o m n i rows k r`, r is what the rows have left of the image under t and of x^i so far, with an image of k terms; m images, n slots.
 -- Proves that what the code takes off is such a step, and that the reduction goes on with it. Assumes nothing.
 use mathlib.Core.Path.{_≡_, sym, _∙_, ap}
 use mathlib.Core.List.{List}
@@ -62,26 +62,26 @@ module _ {p k : ℕ} {u a u′ : List ℕ} (pos : 0 < k) (hu : Reduced p 33 u) (
     fewer = omega (arith, size-small (multiple-off k hu hu h .reduced) small s);
   }
 
-pub record ReducedTo (p : ℕ) (t : ℕ → ℤ[x]/ p) (o d i : ℕ) (rows : List Row) (k : ℕ) (r : Row) : Type 0 where
-  pub reach : k ≤ d
+pub record ReducedTo (p : ℕ) (t : ℕ → ℤ[x]/ p) (o m n i : ℕ) (rows : List Row) (k : ℕ) (r : Row) : Type 0 where
+  pub reach : k ≤ n
   pub image : Reduced p 33 (r .image)
   pub size : Size (r .image) k
   pub preimage : Reduced p 33 (r .preimage)
-  pub reducing : Reducing t d d o (imageAt p rows) i k (poly p (r .image)) (poly p (r .preimage))
+  pub reducing : Reducing t m n o (imageAt p rows) i k (poly p (r .image)) (poly p (r .preimage))
 
 -- the leading term is taken off by the row in its slot
-pub reduced-more : {p : ℕ} {t : ℕ → ℤ[x]/ p} {o d i : ℕ} {rows : List Row} {k l : ℕ} {r : Row} {u w : List ℕ} → 0 < k
-    → Stage t d d o (imageAt p rows) (preimageAt p rows) i
-    → ReducedTo p t o d i rows k r
+pub reduced-more : {p : ℕ} {t : ℕ → ℤ[x]/ p} {o m n i : ℕ} {rows : List Row} {k l : ℕ} {r : Row} {u w : List ℕ} → 0 < k
+    → Stage t m n o (imageAt p rows) (preimageAt p rows) i
+    → ReducedTo p t o m n i rows k r
     → TakenOff p k (r .image) (r .preimage) ((getD rows (k - 1) past) .image) ((getD rows (k - 1) past) .preimage) u w l
-    → ReducedTo p t o d i rows l (record { image = u; preimage = w })
-reduced-more {p} {t} {o} {d} {k = k} {l} pos S h off = record {
+    → ReducedTo p t o m n i rows l (record { image = u; preimage = w })
+reduced-more {p} {t} {o} {m} {n} {k = k} {l} pos S h off = record {
   reach = omega (arith, h .reach, off .fewer);
   image = off .image .reduced;
   size = off .size;
   preimage = off .preimage .reduced;
-  reducing = reducing-down t d d o down (below-size p (off .size))
-      (rw (off .image .is, off .preimage .is) (reducing-more t d d o S (rw next at (h .reducing))));
+  reducing = reducing-down t m n o down (below-size p (off .size))
+      (rw (off .image .is, off .preimage .is) (reducing-more t m n o S (rw next at (h .reducing))));
 }
   where
     next : k ≡ suc (k - 1)

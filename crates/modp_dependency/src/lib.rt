@@ -87,11 +87,12 @@ fn monic_row(a: Coefs, k: usize, b: Coefs, i: usize, p: u16) -> Row
     }
 }
 
-// The least dependency among the polynomials with terms of degree first to d - 1. Each turn takes up the image of the next x^i, or takes the leading term
-// of the image in hand, which has the size k, off by the row in its slot, or stores it as a row where the slot is free: one loop, so that no rows are copied.
-pub fn least_dependency(images: [Image; 33], first: usize, d: usize, p: u16) -> Found
-    requires { ⌜ Prime p × (first ≤ d) × (d ≤ 33) × Images p d images ⌝ }
-    ensures { λ r. ⌜ DependencyFound p images first d r ⌝ }
+// The least dependency among the polynomials with terms of degree first to count - 1, whose images have d terms. Each turn takes up the image of the next x^i,
+// or takes the leading term of the image in hand, which has the size k, off by the row in its slot, or stores it as a row where the slot is free: one loop, so
+// that no rows are copied.
+pub fn least_dependency(images: [Image; 33], first: usize, count: usize, d: usize, p: u16) -> Found
+    requires { ⌜ Prime p × (first ≤ count) × (count ≤ 33) × (d ≤ 33) × Images p count d images ⌝ }
+    ensures { λ r. ⌜ DependencyFound p images first count r ⌝ }
 {
     let mut rows = no_rows();
     let mut image = [0u16; 33];
@@ -99,7 +100,7 @@ pub fn least_dependency(images: [Image; 33], first: usize, d: usize, p: u16) -> 
     let mut k: usize = 0;
     let mut fresh = true;
     let mut i = first;
-    while i < d {
+    while i < count {
         if fresh {
             let start = images[i];
             image = start.coefs;
@@ -123,7 +124,7 @@ pub fn least_dependency(images: [Image; 33], first: usize, d: usize, p: u16) -> 
         k = take_off(&mut image, &mut preimage, &a, &b, k, i, p);
     }
     Found {
-        found: i < d,
+        found: i < count,
         degree: i,
         v: preimage,
     }

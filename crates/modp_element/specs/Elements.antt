@@ -21,8 +21,9 @@ use Rattle.quotients.specs.Remainder.{Remainder}
 use Rattle.modp_dependency.specs.declared.Image.{Image}
 use Rattle.modp_dependency.specs.declared.Found.{Found}
 use Rattle.modp_dependency.specs.Dependency.{DependencyFound}
+use Rattle.modp_dependency.specs.RemainderImages.{images-remainders}
 use Rattle.modp_element.specs.declared.Element.{Element}
-use Rattle.modp_element.specs.Images.{PowerImages, difference-remainders}
+use Rattle.modp_element.specs.Images.{PowerImages}
 
 pub record ElementFound (p d : ℕ) (q : List ℕ) (r : Found) : Type 0 where
   pub reduced : r .found ≡ true → Reduced p 33 (r .v)
@@ -33,8 +34,8 @@ pub element-found : {p : ℕ} → Prime p → {d : ℕ} {q : List ℕ} {images :
     → PowerImages p q d d images → DependencyFound p images 1 d r → ElementFound p d q r
 element-found P m h a = record {
   reduced = λ e. a .found e .reduced;
-  splits = λ e. dependency-splits P m (difference-remainders h) (a .found e .within) (a .found e .least);
-  unsplit = λ e. injective-unsplit P m (difference-remainders h) (a .none e);
+  splits = λ e. dependency-splits P m (images-remainders h) (a .found e .within) (a .found e .least);
+  unsplit = λ e. injective-unsplit P m (images-remainders h) (a .none e);
 }
 
 -- where e is known, it is a splitting element of Q; Q is of degree d

@@ -1,15 +1,9 @@
 -- The loop of `images`: `PowerImages p q d i images`, the first i images are the remainders of x^(p·k) − x^k by q.
--- Proves how the powers x^(p·k) are made, that the loop begins so and goes on so, and that the images are then those that the mathematics of the map
--- v^p − v has. Assumes nothing.
-use mathlib.Core.Path.{_≡_, refl, sym, _∙_, ap, ap₂, subst}
-use mathlib.Core.List.{List, [], _∷_}
-use mathlib.Core.Logic.{_≢_}
-use Prim.Native.Nat.{ℕ, _<_, _≤_, _-_, _+_}
-use native.Mathlib.Nat.{le-antisymm}
-use native.Mathlib.Decide.{ℕ-discrete}
-use native.Mathlib.Omega.{arith}
-use lib.ListN.{length, set, replicate, length-set, length-replicate}
-use lib.Seq.{getD-set-same, getD-set-other}
+-- Proves how the powers x^(p·k) are made, and that the loop begins so and goes on so. Assumes nothing.
+use mathlib.Core.Path.{refl, sym, _∙_, ap, ap₂}
+use mathlib.Core.List.{List, _∷_}
+use Prim.Native.Nat.{ℕ, _<_, _-_, _+_}
+use lib.ListN.{set, replicate}
 use Rattle.algebra.specs.Ring.{mul-one, add-neg}
 use Rattle.algebra.specs.Divisibility.{pow, pow-zero, pow-one}
 use Rattle.algebra.specs.Residues.{residue}
@@ -20,16 +14,14 @@ use Rattle.algebra.specs.CoefficientLists.{poly, 𝓩[x]/}
 use Rattle.algebra.specs.Congruence.{congruent-equal, congruent-trans, congruent-add, congruent-mul}
 use Rattle.algebra.specs.ListDivision.{poly-unit}
 use Rattle.arrays.specs.Represents.{Represents, zeros}
-use Rattle.frobenius.specs.LinearMaps.{Remainders}
 use Rattle.frobenius.specs.FrobeniusPowers.{_^ᴿ_, differenceImages}
 use Rattle.modular.specs.Multiples.{minus-one-multiple}
 use Rattle.quotients.specs.Remainder.{Remainder, remainder-as}
 use Rattle.modp_dependency.specs.declared.Image.{Image}
-use Rattle.modp_dependency.specs.Dependency.{coefsOf, imageOf, Images}
+use Rattle.modp_dependency.specs.RemainderImages.{RemainderImages, images-first, images-stored}
 
-pub record PowerImages (p : ℕ) (q : List ℕ) (d i : ℕ) (images : List Image) : Type 0 where
-  pub slots : length images ≡ 33
-  pub each : (k : ℕ) → k < i → Remainder p q d (coefsOf images k) (differenceImages p k)
+abbrev pub PowerImages : (p : ℕ) → List ℕ → (d i : ℕ) → List Image → Type 0
+PowerImages p q d i images = RemainderImages p q d (differenceImages p) i images
 
 -- a + (p − 1)·x^i is a − x^i
 pub less-power : (p i : ℕ) (a m : List ℕ) → 0 < p
@@ -62,18 +54,12 @@ module _ {p : ℕ} {q : List ℕ} {d : ℕ} where
 
   -- the image of 1 is 0
   pub images-none : 0 < p → PowerImages p q d 1 (replicate 33 (record { coefs = replicate 33 0 }))
-  images-none pos = record { slots = length-replicate {A = Image} 33 (record { coefs = replicate 33 0 }); each = λ k l. at k (omega arith) }
-    where
-      zero-image : Remainder p q d (replicate 33 0) (differenceImages p 0)
-      zero-image = record {
-        reduced = zeros p pos .reduced;
-        small = rw (zeros p pos .is) (below-𝟎 d);
-        congruent = congruent-equal (𝓩[x]/ p)
-            (zeros p pos .is ∙ sym (ap₂ (λ a b. a +ᴿ -ᴿ b) (pow-zero (𝓩[x]/ p) (x ^ᴿ p)) (pow-zero (𝓩[x]/ p) x) ∙ add-neg (𝓩[x]/ p) 𝟏));
-      }
-
-      at : (k : ℕ) → k ≡ 0 → Remainder p q d (coefsOf (replicate 33 (record { coefs = replicate 33 0 })) k) (differenceImages p k)
-      at k e = rw e zero-image
+  images-none pos = images-first (record {
+    reduced = zeros p pos .reduced;
+    small = rw (zeros p pos .is) (below-𝟎 d);
+    congruent = congruent-equal (𝓩[x]/ p)
+        (zeros p pos .is ∙ sym (ap₂ (λ a b. a +ᴿ -ᴿ b) (pow-zero (𝓩[x]/ p) (x ^ᴿ p)) (pow-zero (𝓩[x]/ p) x) ∙ add-neg (𝓩[x]/ p) 𝟏));
+  })
 
   -- m is w − x^i
   image-more : (i : ℕ) {w m : List ℕ} → i < d → Remainder p q d w (x^ p ^ᴿ i) → Represents p m (poly p w +ᴿ -ᴿ x^ i)
@@ -86,27 +72,4 @@ module _ {p : ℕ} {q : List ℕ} {d : ℕ} where
 
   pub images-more : {i : ℕ} {images : List Image} {w : List ℕ} {image : Image} → i < d → i < 33 → PowerImages p q d i images
       → Remainder p q d w (x^ p ^ᴿ i) → Represents p (image .coefs) (poly p w +ᴿ -ᴿ x^ i) → PowerImages p q d (i + 1) (set images i image)
-  images-more {i} {images} {w} {image} l fits h hw hm = record {
-    slots = length-set images i image ∙ h .slots;
-    each = λ k u. at k u (ℕ-discrete k i);
-  }
-    where
-      here : coefsOf (set images i image) i ≡ image .coefs
-      here = ap (λ (z : Image). z .coefs) (getD-set-same images i image (record { coefs = [] }) (omega (arith, h .slots)))
-
-      other : (k : ℕ) → k ≢ i → coefsOf (set images i image) k ≡ coefsOf images k
-      other k ne = ap (λ (z : Image). z .coefs) (getD-set-other images i k image (record { coefs = [] }) ne)
-
-      at : (k : ℕ) → k < i + 1 → Dec (k ≡ i) → Remainder p q d (coefsOf (set images i image) k) (differenceImages p k)
-      at k u (yes e) = rw (e, here) (image-more i l hw hm)
-      at k u (no ne) = rw (other k ne) (h .each k (omega (arith, ne)))
-
-  pub images-done : {i : ℕ} {images : List Image} → i ≤ d → d ≤ i → PowerImages p q d i images → PowerImages p q d d images
-  images-done {images = images} l u h = subst (λ k. PowerImages p q d k images) (le-antisymm l u) h
-
-module _ {p : ℕ} {q : List ℕ} {d : ℕ} {images : List Image} (h : PowerImages p q d d images) where
-  pub images-given : Images p d images
-  images-given = record { reduced = λ k l. h .each k l .reduced; small = λ k l. h .each k l .small }
-
-  pub difference-remainders : Remainders d (poly p q) d (imageOf p images) (differenceImages p)
-  difference-remainders = record { small = λ k l. h .each k l .small; same = λ k l. h .each k l .congruent }
+  images-more {i} l fits h hw hm = images-stored fits h (image-more i l hw hm)

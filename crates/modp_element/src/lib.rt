@@ -29,26 +29,23 @@ pub struct Element {
     pub v: Coefs,
 }
 
-// Below this prime powers of x come quicker by shifts than by products.
-const SHIFTS_BELOW: u16 = 33;
-
-// x^p modulo q.
+// x^p modulo q, by p shifts or by squarings. A product takes as long as some 2·d shifts, and this power as some four products.
 fn power_of_x(q: Coefs, d: usize, p: u16) -> Coefs
     requires { ⌜ (1 < p) × (1 < d) × (d < 33) × Monic d (poly p q) × Reduced p 33 q ⌝ }
     ensures { λ r. ⌜ Remainder p q d r (x^ p) ⌝ }
 {
-    if p < SHIFTS_BELOW {
+    if (p as usize) < 8 * d {
         return times_power_of_x(p as usize, monomial(0), q, d, p);
     }
     power(monomial(1), p, q, d, p)
 }
 
-// x^p·a modulo q, where y is x^p modulo q.
+// x^p·a modulo q, where y is x^p modulo q, by p shifts or by one product.
 fn next_power(a: Coefs, y: Coefs, q: Coefs, d: usize, p: u16) -> Coefs
     requires { ⌜ (d < 33) × Reduced p 33 a × Below d (poly p a) × Remainder p q d y (x^ p) × Monic d (poly p q) × Reduced p 33 q ⌝ }
     ensures { λ r. ⌜ Remainder p q d r (x^ p · poly p a) ⌝ }
 {
-    if p < SHIFTS_BELOW {
+    if (p as usize) < 2 * d {
         return times_power_of_x(p as usize, a, q, d, p);
     }
     product_modulo(a, y, q, d, p)
@@ -93,7 +90,7 @@ fn splitting_element(q: Coefs, d: usize, p: u16) -> Found
     ensures { λ r. ⌜ ElementFound p d q r ⌝ }
 {
     let t = images(q, d, p);
-    least_dependency(t, 1, d, p)
+    least_dependency(t, 1, d, d, p)
 }
 
 // A splitting element of q: the one at hand, if it is known, or else one that is looked for. The degree that is given with it says nothing.

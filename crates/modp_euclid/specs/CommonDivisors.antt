@@ -2,7 +2,7 @@
 -- Proves that Euclid's algorithm ends with them, with the cofactors and without. Assumes nothing.
 use mathlib.Core.Path.{_≡_}
 use mathlib.Core.List.{List}
-use Prim.Native.Nat.{ℕ, _≤_, _-_}
+use Prim.Native.Nat.{ℕ, _≤_, _-_, _+_}
 use native.Mathlib.Omega.{arith}
 use Rattle.algebra.specs.Divisibility.{_∣_, divides-refl, divides-trans, divides-mul, divides-zero}
 use Rattle.algebra.specs.Residues.{residue}
@@ -12,11 +12,8 @@ use Rattle.algebra.specs.CoefficientLists.{ℤ[x]/, poly, Reduced, 𝓩[x]/}
 use Rattle.algebra.specs.Congruence.{Congruent, congruent-sym, divides-congruent}
 use Rattle.arrays.specs.Sizes.{Size, below-size}
 use Rattle.modp_euclid.specs.MonicMultiples.{MonicMultipleOf, divides-back}
-use Rattle.modp_euclid.specs.RemainderRows.{MonicRow, Formed, Combined, leaves-monic}
-use Rattle.modp_euclid.specs.Remainders.{Successive, SameDivisors}
-use Rattle.modp_euclid.specs.declared.Row.{Row}
-use Rattle.modp_euclid.specs.declared.Rows.{Rows}
-use Rattle.modp_euclid.specs.declared.Remainders.{Remainders}
+use Rattle.modp_euclid.specs.RemainderRows.{Row, Rows, MonicRow, Formed, Combined, leaves-monic}
+use Rattle.modp_euclid.specs.Remainders.{Remainders, Reached}
 
 -- g divides a and b, and every common divisor divides g
 pub record GcdOf (p : ℕ) (a b : List ℕ) (d : ℕ) (g : List ℕ) (e : ℕ) : Type 0 where
@@ -59,11 +56,11 @@ divides-nothing {p} {a} k size l = rw nothing (divides-zero (𝓩[x]/ p) k)
     nothing = below-zero (below-up l (below-size p size))
 
 module _ {p d : ℕ} {a b : List ℕ} {w : Rows} {f : Row} (combined : Combined p a b w) (formed : Formed p d w)
-    (monic : MonicRow p (d - w .degree) (w .degree) (w .former) f) where
+    (monic : MonicRow p (d + 1 - w .terms) (w .terms - 1) (w .former) f) where
   -- the latter remainder is 0: the former, made monic, is the gcd
-  pub gcd-former : w .size ≤ 0 → GcdOf p a b d (f .remainder) (w .degree)
+  pub gcd-former : w .size ≤ 0 → GcdOf p a b d (f .remainder) (w .terms - 1)
   gcd-former l =
-      gcd-of-multiple (monic .remainder) (formed .limit) (λ k h. combined .common k h (divides-nothing k (formed .size) l))
+      gcd-of-multiple (monic .remainder) (omega (arith, formed .limit)) (λ k h. combined .common k h (divides-nothing k (formed .size) l))
       (λ k left right.
       divides-congruent (𝓩[x]/ p)
       (congruent-sym (𝓩[x]/ p) (divides-trans (𝓩[x]/ p) right (combined .former)))
@@ -72,11 +69,12 @@ module _ {p d : ℕ} {a b : List ℕ} {w : Rows} {f : Row} (combined : Combined 
   pub cofactor-former : CofactorOf p a b d (f .remainder) (f .cofactor)
   cofactor-former = record {
     reduced = monic .reduced .cofactor;
-    small = below-up (omega arith) (monic .reduced .small);
+    small = below-up (omega (arith, formed .fewer)) (monic .reduced .small);
     combination = leaves-monic a b monic (combined .former);
   }
 
-pub gcd-of-remainders : {p d c : ℕ} {a b g : List ℕ} {w : Remainders} → SameDivisors p a b w → Successive p w → w .degree ≤ d → w .size ≤ 0
-    → MonicMultipleOf p (w .former) (w .degree) g c → GcdOf p a b d g (w .degree)
-gcd-of-remainders same successive limit l m =
-    gcd-of-multiple m limit (λ k h. same .up k h (divides-nothing k (successive .size) l)) (λ k left right. same .down k left right .0)
+pub gcd-of-remainders : {p d c : ℕ} {a b g : List ℕ} {w : Remainders} → Reached p a b d w → w .size ≤ 0
+    → MonicMultipleOf p (w .former) (w .terms - 1) g c → GcdOf p a b d g (w .terms - 1)
+gcd-of-remainders h l m =
+    gcd-of-multiple m (omega (arith, h .limit)) (λ k f. h .same .up k f (divides-nothing k (h .successive .size) l))
+    (λ k left right. h .same .down k left right .0)

@@ -1,6 +1,7 @@
 pub mod MonicMultiples
-pub mod RemainderRows
-pub mod DividedRow
-pub mod Next
+pub mod TakenOff
 pub mod Remainders
+pub mod RemainderRows
+pub mod RowTakenOff
+pub mod Next
 pub mod CommonDivisors

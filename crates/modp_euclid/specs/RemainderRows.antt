@@ -18,8 +18,18 @@ use Rattle.algebra.specs.Congruence.{Congruent, congruent-sym, congruent-equal,
 use Rattle.arrays.specs.Represents.{Represents, zeros, unit, below-unit}
 use Rattle.arrays.specs.Sizes.{Size, size-small, size-monic}
 use Rattle.modp_euclid.specs.MonicMultiples.{MonicMultipleOf}
-use Rattle.modp_euclid.specs.declared.Row.{Row}
-use Rattle.modp_euclid.specs.declared.Rows.{Rows}
+
+-- a remainder of Euclid's algorithm for a and b, and the cofactor of a
+pub record Row : Type 0 where
+  pub remainder : List ℕ
+  pub cofactor : List ℕ
+
+-- two successive remainders: the former has as many terms as is said, the latter the size
+pub record Rows : Type 0 where
+  pub former : Row
+  pub terms : ℕ
+  pub latter : Row
+  pub size : ℕ
 
 -- cofactor·a leaves the remainder modulo b
 abbrev pub Leaves : (p : ℕ) → List ℕ → List ℕ → Row → Type 0
@@ -38,14 +48,14 @@ pub record MonicRow (p t e : ℕ) (r f : Row) : Type 0 where
   pub remainder : MonicMultipleOf p (r .remainder) e (f .remainder) unit
   pub cofactor : poly p (f .cofactor) ≡ constant (residue p unit) · poly p (r .cofactor)
 
--- the former remainder is not 0, and the latter of lower degree; where b is of degree d, the former's degree bounds the terms of both cofactors
+-- the former remainder is not 0, and the latter of lower degree; where b is of degree d, the former's terms bound those of both cofactors
 pub record Formed (p d : ℕ) (w : Rows) : Type 0 where
-  pub former : ReducedRow p (d - w .degree) (w .former)
-  pub latter : ReducedRow p (d + 1 - w .degree) (w .latter)
-  pub leading : Size (w .former .remainder) (w .degree + 1)
-  pub limit : w .degree ≤ d
+  pub former : ReducedRow p (d + 1 - w .terms) (w .former)
+  pub latter : ReducedRow p (d + 2 - w .terms) (w .latter)
+  pub leading : Size (w .former .remainder) (w .terms)
+  pub limit : w .terms ≤ d + 1
   pub size : Size (w .latter .remainder) (w .size)
-  pub fewer : w .size ≤ w .degree
+  pub fewer : w .size < w .terms
 
 -- a common divisor of the two remainders divides a and b
 pub record Combined (p : ℕ) (a b : List ℕ) (w : Rows) : Type 0 where
@@ -59,7 +69,7 @@ pub record Combined (p : ℕ) (a b : List ℕ) (w : Rows) : Type 0 where
 abbrev pub first : List ℕ → List ℕ → ℕ → ℕ → Rows
 first a b d s = record {
   former = record { remainder = b; cofactor = replicate 33 0 };
-  degree = d;
+  terms = d + 1;
   latter = record { remainder = a; cofactor = 1 ∷ replicate 32 0 };
   size = s;
 }
@@ -95,12 +105,12 @@ module _ (p : ℕ) (a b : List ℕ) (d s : ℕ) where
   -- 0 has no terms, and 1 has one
   pub formed-first : 1 < p → d < 33 → Reduced p 33 a → Reduced p 33 b → Below d (poly p a) → Monic d (poly p b) → Size a s → Formed p d (first a b d s)
   formed-first l fits ha hb h m z = record {
-    former = record { remainder = hb; cofactor = (zeros p (omega arith)) .reduced; small = rw ((zeros p (omega arith)) .is) (below-𝟎 (d - d)) };
+    former = record { remainder = hb; cofactor = (zeros p (omega arith)) .reduced; small = rw ((zeros p (omega arith)) .is) (below-𝟎 (d + 1 - (d + 1))) };
     latter = record { remainder = ha; cofactor = (unit p l) .reduced; small = below-up (omega arith) (below-unit p 32) };
     leading = size-monic l fits hb m;
-    limit = le-refl d;
+    limit = le-refl (d + 1);
     size = z;
-    fewer = size-small ha h z;
+    fewer = omega (arith, size-small ha h z);
   }
 
   pub combined-first : 1 < p → Combined p a b (first a b d s)

@@ -9,7 +9,7 @@ use Prim.Native.Nat.{ℕ, _≤_, _<_, _-_, _+_}
 use native.Mathlib.Nat.{pos-of-ne-zero}
 use native.Mathlib.Omega.{arith}
 use Rattle.algebra.specs.Ring.{CommRing, mul-one}
-use Rattle.algebra.specs.Divisibility.{Coprime, divides-mul, divides-add}
+use Rattle.algebra.specs.Divisibility.{Coprime, divides-mul, divides-add, coprime-common}
 use Rattle.algebra.specs.Residues.{ℤ/, residue, Residues, residue-value, value-below}
 use Rattle.algebra.specs.PolynomialRing.{_+ᴿ_, _·_, -ᴿ_, 𝟏, constant, constant-zero}
 use Rattle.algebra.specs.Monomials.{x^}
@@ -19,7 +19,7 @@ use Rattle.algebra.specs.Bezout.{MonicBezout, bezout-monic}
 use Rattle.algebra.specs.CoefficientLists.{ℤ[x]/, poly, Reduced, 𝓩[x]/}
 use Rattle.algebra.specs.ListDivision.{poly-unit}
 use Rattle.arrays.specs.Represents.{Represents}
-use Rattle.factorisation.specs.MonicDivisors.{monic-antisym, monic-degree, monic-nonzero}
+use Rattle.factorisation.specs.MonicDivisors.{monic-antisym, monic-degree, monic-nonzero, divisor-degree}
 use Rattle.frobenius.specs.SplittingElements.{CoprimeFactors, SplittingElement, splitting-constant, splitting-factors}
 use Rattle.modular.specs.Multiples.{multiple-taken-off}
 use Rattle.division.specs.DivisionLoop.{DividedBy, divided-exactly}
@@ -28,6 +28,7 @@ use Rattle.modp_euclid.specs.CommonDivisors.{GcdOf}
 -- Q is monic of degree d, and v is a splitting element of it
 pub record Halvable (p : ℕ) (q : List ℕ) (d : ℕ) (v : List ℕ) : Type 0 where
   pub prime : Prime p
+  pub byte : p < 256
   pub fits : d < 33
   pub reduced : Reduced p 33 q
   pub monic : Monic d (poly p q)
@@ -56,7 +57,7 @@ less-constant p c v r pos l h = record {
 }
 
 -- the gcd is the one that Bézout finds
-pub gcd-of-bezout : {p : ℕ} (P : Prime p) {w q g : List ℕ} {d e : ℕ} → GcdOf p w q d g e
+gcd-of-bezout : {p : ℕ} (P : Prime p) {w q g : List ℕ} {d e : ℕ} → GcdOf p w q d g e
     → (z : MonicBezout (residue-field p P) (poly p q) (poly p w)) → z .combined .gcd ≡ poly p g
 gcd-of-bezout {p} P hg z =
     monic-antisym (residue-nontrivial (P .large)) (z .monic) (hg .monic) (hg .greatest (z .combined .gcd) (z .combined .right) (z .combined .left))
@@ -127,6 +128,14 @@ module _ {p : ℕ} {q v : List ℕ} {d : ℕ} (S : Halvable p q d v) where
     -- a gcd of degree 0 is 1
     pub coprime-at : e ≤ 0 → CoprimeTo c
     coprime-at l z = same-gcd z ∙ monic-zero (rw (let k : e ≡ 0 = omega arith in k) at (hg .monic))
+
+  -- v − c has no factor in common with Q
+  pub coprime-known : (c : ℕ) → Coprime (𝓩[x]/ p) (poly p q) (less c) → CoprimeTo c
+  coprime-known c h z =
+      monic-zero (rw (let e : z .degree ≡ 0 = omega (arith, degree) in e) at (z .monic))
+    where
+      degree : z .degree ≤ 0
+      degree = divisor-degree nontrivial (z .monic) monic-one (coprime-common (𝓩[x]/ p) h (z .combined .left) (z .combined .right))
 
   pub not-all : ((c : ℕ) → c < p → CoprimeTo c) → ⊥
   not-all h = go (splitting-constant (S .prime) (S .monic) (S .splits))

@@ -1,3 +1,3 @@
 pub mod Halves
-pub mod FewValues
-pub mod Spreading
+pub mod PowersStored
+pub mod Candidates

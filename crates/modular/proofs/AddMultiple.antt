@@ -1,15 +1,15 @@
 -- Arrays to which `add_in_place` added c·b, from the entry k on or from the first: a + c·x^k·b.
--- Proves that such an array represents this polynomial, and that a part of a reduced array has no entry from n on. Assumes nothing.
+-- Proves that such an array represents this polynomial, also where it is lent, and that a part of a reduced array has no entry from n on. Assumes nothing.
 use mathlib.Core.Path.{_≡_, sym, _∙_, ap}
 use mathlib.Core.List.{List}
 use mathlib.Core.Logic.{⊎-elim}
-use Prim.Native.Nat.{ℕ, _≤_, _<_, _-_, _%_, _+_, _*_}
+use Prim.Native.Nat.{ℕ, _≤_, _<_, _-_, _/_, _%_, _+_, _*_}
 use native.Mathlib.Nat.{mod-lt}
 use native.Mathlib.Omega.{arith}
 use lib.ListN.{length, getD}
 use borrow.Rule.Slice.PartMut.{midOf, putMid}
 use Rattle.lists.specs.Entries.{Replaced, replaced-each}
-use Rattle.lists.specs.LentParts.{part-entry, part-past, part-replaced}
+use Rattle.lists.specs.LentParts.{part-length, part-entry, part-past, part-replaced}
 use Rattle.algebra.specs.Numbers.{lt-or-le}
 use Rattle.algebra.specs.Ring.{add-zero, mul-zero}
 use Rattle.algebra.specs.Residues.{residue, Residues, residue-add, residue-mul, residue-mod}
@@ -17,7 +17,8 @@ use Rattle.algebra.specs.PolynomialRing.{_+ᴿ_, _·_, constant, poly-ext}
 use Rattle.algebra.specs.Degree.{Below}
 use Rattle.algebra.specs.CoefficientLists.{ℤ[x]/, poly, Reduced, coef-poly}
 use Rattle.algebra.specs.Monomials.{x^, coef-shift-below, coef-shift}
-use Rattle.arrays.specs.Represents.{Represents, Within, coef-added}
+use Rattle.arrays.specs.Represents.{Represents, Within, ZeroFrom, coef-added}
+use Rattle.arrays.specs.SameEntries.{zero-above}
 use Rattle.modular.specs.InPlace.{Added}
 
 module _ (n : ℕ) (a : List ℕ) (c : ℕ) (b : List ℕ) (k : ℕ) where
@@ -76,6 +77,20 @@ multiple-added n a c b k {m} {r} ha hb room w = record {
         w .each (j - k)
         ∙ ap (λ (y : ℕ). (y + c * getD b (j - k) 0) % n)
         (part-entry 0 k (33 - k) a fits (j - k) (omega arith) ∙ ap (λ (t : ℕ). getD a t 0) (let e : k + (j - k) ≡ j = omega arith in e))
+
+-- the same of an array that is lent, whose length is known by what it holds: `add_by` may add c·b to the part from k on
+pub lent-part : {n : ℕ} (k : ℕ) {m c w : ℕ} (a b : List ℕ) → Reduced n 33 a → Reduced n 33 b → Below m (poly n b) → k + m ≤ 33 → c ≤ n → w ≡ 4294967295 / n
+    → (c ≤ n) × (m ≤ length (midOf k (length a - k) a)) × (length (midOf k (length a - k) a) ≤ length b) × Within n (midOf k (length a - k) a)
+    × Within n b × ZeroFrom m b × (w ≡ 4294967295 / n)
+lent-part k {m} a b ha hb few room low v =
+    (low, omega (arith, long, ha .len), omega (arith, long, ha .len, hb .len), rw (ha .len) (part-within k a ha (omega arith)), hb .low, zero-above hb few, v)
+  where
+    long : length (midOf k (length a - k) a) ≡ length a - k
+    long = part-length 0 k (length a - k) a (omega (arith, ha .len))
+
+pub lent-added : (n : ℕ) (a : List ℕ) (c : ℕ) (b : List ℕ) (k : ℕ) {m : ℕ} {r : List ℕ} → Reduced n 33 a → Below m (poly n b) → k + m ≤ 33
+    → Added n (midOf k (length a - k) a) c b r → Represents n (putMid k (length a - k) a r) (poly n a +ᴿ constant (residue n c) · (x^ k · poly n b))
+lent-added n a c b k {m} {r} ha hb room = rw (ha .len) (multiple-added n a c b k ha hb room)
 
 -- c·b was added to the whole
 pub multiple-added-to : (n : ℕ) (a : List ℕ) (c : ℕ) (b : List ℕ) {r : List ℕ} → Reduced n 33 a → Added n a c b r

@@ -1,13 +1,16 @@
 -- Multiples of arrays as `add_multiple`, and `add_in_place` on a whole array, make them, a + c·x^0·b: n − c stands for −c.
--- Proves what is then taken off, and that the multiples by 1 and by n − 1, and that of the array of 0, represent sum, difference and multiple.
+-- Proves what is then taken off, that the multiples by 1 and by n − 1, and that of the array of 0, represent sum, difference and multiple, and that those
+-- by a multiple of n change nothing.
 -- Assumes nothing.
 use mathlib.Core.Path.{_≡_, sym, _∙_, ap, ap₂}
 use mathlib.Core.List.{List}
-use Prim.Native.Nat.{ℕ, _≤_, _<_, _-_}
+use Prim.Native.Nat.{ℕ, _≤_, _<_, _-_, _%_}
+use native.Mathlib.Omega.{arith}
 use lib.ListN.{replicate}
 use Rattle.algebra.specs.Ring.{neg-mul, one-mul, zero-add}
-use Rattle.algebra.specs.Residues.{residue}
-use Rattle.algebra.specs.PolynomialRing.{_+ᴿ_, _·_, -ᴿ_, constant}
+use Rattle.algebra.specs.Identities.{con, _⊕_, _⊗_, _≈_, solve}
+use Rattle.algebra.specs.Residues.{residue, Residues, residue-zero, residue-mod}
+use Rattle.algebra.specs.PolynomialRing.{_+ᴿ_, _·_, -ᴿ_, 𝟎, constant, constant-zero}
 use Rattle.algebra.specs.CoefficientLists.{ℤ[x]/, poly, Reduced, constant-residue-one, 𝓩[x]/}
 use Rattle.algebra.specs.Monomials.{x^, shift-zero}
 use Rattle.arrays.specs.Represents.{Represents, zeros, constant-residue-neg}
@@ -40,6 +43,17 @@ module _ (n : ℕ) (a b r : List ℕ) where
 
 pub multiple-by-one : {n c : ℕ} {a : List ℕ} → c ≡ 1 → Reduced n 33 a → Represents n a (constant (residue n c) · poly n a)
 multiple-by-one {n} {c} {a} e h = record { reduced = h; is = sym (ap (λ (k : ℕ). constant (residue n k) · poly n a) e ∙ one-multiple n (poly n a)) }
+
+-- the multiple by a c that n divides
+pub nothing-represented : {n : ℕ} (c : ℕ) {a : List ℕ} (t : ℤ[x]/ n) → Reduced n 33 a → c % n ≡ 0 → Represents n a (poly n a +ᴿ constant (residue n c) · t)
+nothing-represented {n} c {a} t h e = record {
+  reduced = h;
+  is = sym (ap (λ z. poly n a +ᴿ z · t) nothing ∙ solve (𝓩[x]/ n) 2 (λ a t. a ⊕ con 0 ⊗ t ≈ a) tt (poly n a) t);
+}
+  where
+    nothing : constant {𝓡 = Residues n} (residue n c) ≡ 𝟎
+    nothing =
+        ap constant (sym (residue-mod n (omega (arith, h .low 0)) c) ∙ ap (residue n) e ∙ residue-zero n) ∙ constant-zero (Residues n)
 
 pub multiple-represented : (n c : ℕ) (a r : List ℕ) → 0 < n
     → Represents n r (poly n (replicate 33 0) +ᴿ constant (residue n c) · (x^ 0 · poly n a)) → Represents n r (constant (residue n c) · poly n a)

@@ -14,6 +14,7 @@ ghost use Rattle.arrays.specs.Represents.{Represents, Within, ZeroFrom};
 ghost use Rattle.modular.specs.InPlace.{Added};
 use arrays::Coefs;
 use residues::add_product;
+use residues::quotient_narrow;
 use residues::reciprocal;
 use residues::reduce_narrow;
 
@@ -36,7 +37,21 @@ fn padded(m: usize, most: usize) -> usize
     }
 }
 
-// r + c·b in place, where b has m terms; nothing where c is 0 or n. Past its terms b is 0, so that the loop may run on over them.
+// r + c·b in place, where b has m terms and w is the reciprocal of n. Past its terms b is 0, so that the loop may run on over them.
+pub fn add_by(r: &mut [u16], c: u16, b: &[u16], m: usize, n: u16, w: u32)
+    requires { ⌜ (c ≤ n) × (m ≤ length (now r)) × (length (now r) ≤ length (now b)) × Within n (now r) × Within n (now b) × ZeroFrom m (now b)
+        × (w ≡ 4294967295 / n) ⌝ }
+    ensures { λ _. ⌜ Added n (now (r .entry)) c (now (b .entry)) (now (r .exit)) ⌝ }
+{
+    let end = padded(m, r.len());
+    let mut j: usize = 0;
+    while j < end {
+        r[j] = add_product(r[j], c, b[j], n, w);
+        j += 1;
+    }
+}
+
+// r + c·b in place, where b has m terms; nothing where c is 0 or n.
 pub fn add_in_place(r: &mut [u16], c: u16, b: &[u16], m: usize, n: u16)
     requires { ⌜ (c ≤ n) × (m ≤ length (now r)) × (length (now r) ≤ length (now b)) × Within n (now r) × Within n (now b) × ZeroFrom m (now b) ⌝ }
     ensures { λ _. ⌜ Added n (now (r .entry)) c (now (b .entry)) (now (r .exit)) ⌝ }
@@ -47,13 +62,8 @@ pub fn add_in_place(r: &mut [u16], c: u16, b: &[u16], m: usize, n: u16)
     if c == n {
         return;
     }
-    let end = padded(m, r.len());
     let w = reciprocal(n);
-    let mut j: usize = 0;
-    while j < end {
-        r[j] = add_product(r[j], c, b[j], n, w);
-        j += 1;
-    }
+    add_by(r, c, b, m, n, w);
 }
 
 // a + c·x^k·b, where b has m terms.
@@ -94,15 +104,19 @@ pub fn difference(a: Coefs, b: Coefs, n: u16) -> Coefs
     add_multiple(a, n - 1, b, 0, 33, n)
 }
 
-// a·b, where a has s terms and b has t.
+// a·b, where a has s terms and b has t. Terms that are 0 are passed over, and the reciprocal is made once.
 pub fn product(a: Coefs, s: usize, b: Coefs, t: usize, n: u16) -> Coefs
     requires { ⌜ Reduced n 33 a × Reduced n 33 b × (s ≤ 33) × (s + t ≤ 34) × Below s (poly n a) × Below t (poly n b) ⌝ }
     ensures { λ r. ⌜ Represents n r (poly n a · poly n b) ⌝ }
 {
+    let w = reciprocal(n);
     let mut r = [0u16; 33];
     let mut i: usize = 0;
     while i < s {
-        add_in_place(&mut r[i..], a[i], &b, t, n);
+        let c = a[i];
+        if c != 0 {
+            add_by(&mut r[i..], c, &b, t, n, w);
+        }
         i += 1;
     }
     r
@@ -128,10 +142,11 @@ pub fn over(a: Coefs, p: u16) -> Coefs
     requires { ⌜ 0 < p ⌝ }
     ensures { λ r. ⌜ r ≡ map (λ v. v / p) a ⌝ }
 {
+    let w = 65535 / p;
     let mut q = a;
     let mut i: usize = 0;
     while i < 33 {
-        q[i] = a[i] / p;
+        q[i] = quotient_narrow(p, w, a[i]);
         i += 1;
     }
     q

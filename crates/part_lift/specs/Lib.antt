@@ -1,4 +1,4 @@
-pub mod Defect
+pub mod Inverses
+pub mod Cuttable
 pub mod Correction
-pub mod CoprimePair
-pub mod Lifted
+pub mod CutOff

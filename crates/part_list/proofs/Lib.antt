@@ -1,4 +1,1 @@
-pub mod ArrayOrder
-pub mod ArrayPieces
 pub mod FoundParts
-pub mod Progress

@@ -1,12 +1,10 @@
--- The parts that a `Parts` holds, as a list (`held`), and item 3's order of them (`PartBefore`).
+-- The parts that a `Parts` holds, as a list (`held`).
 -- Proves that the array has room for them. Assumes nothing.
 use mathlib.Core.Path.{_≡_}
 use mathlib.Core.List.{List, [], map}
 use Prim.Native.Nat.{_≤_}
 use lib.ListN.{length, take}
-use Rattle.specification.specs.Items1to3.{Before}
 use Rattle.lists.specs.Places.{has-room}
-use Rattle.arrays.specs.Listed.{listed}
 use Rattle.part_verdict.specs.declared.Verdict.the-variants.{Basic}
 use Rattle.part_verdict.specs.declared.Factor.{Factor}
 use Rattle.part_verdict.specs.declared.Part.{Part}
@@ -15,10 +13,6 @@ use Rattle.part_list.specs.declared.Parts.{Parts}
 -- the first `count` of the array
 abbrev pub held : Parts → List Part
 held a = take (a .count) (a .parts)
-
--- item 3: the base of x comes before that of y
-abbrev pub PartBefore : Part → Part → Type 0
-PartBefore x y = Before (listed (x .degree) (x .base)) (listed (y .degree) (y .base))
 
 -- what is read past an array's end
 abbrev pub noPart : Part

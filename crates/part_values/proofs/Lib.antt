@@ -1,5 +1,5 @@
 pub mod Degrees
-mod PowerLoop
+mod PowerHalves
 mod HBar
 mod Cofactors
 mod CofactorIsW

@@ -1,4 +1,4 @@
-// The values of Algorithm 4.5 of document 002, each proved where the text first has it: G and m, g, h bar, m1 and w, u, and the factors made of them.
+// The values of Algorithm 4.5 of document 002, each proved where the text first has it: g, h bar, m1 and w, u, and the factors made of them.
 // f is a primary polynomial modulo p², which the contracts call the part; G is in `base` and of degree d. Arrays hold 33 coefficients, constant first.
 // What is public is so for the crates above, and no entry point of the library.
 ghost use mathlib.Core.Path.{_≡_};
@@ -13,14 +13,12 @@ ghost use Rattle.algebra.specs.PolynomialRing.{𝟎};
 ghost use Rattle.algebra.specs.Degree.{Below, Monic};
 ghost use Rattle.algebra.specs.CoefficientLists.{poly, Reduced, 𝓩[x]/};
 ghost use Rattle.arrays.specs.Represents.{Represents};
-ghost use Rattle.part_values.specs.Primary.{PrimaryBar, Determined};
-ghost use Rattle.part_values.specs.Given.{Given, Chosen};
-ghost use Rattle.part_values.specs.ArrayValues.{IsDigitLift, IsHBar, AreM1AndW, IsU, HBarOver, WOver};
+ghost use Rattle.part_values.specs.Given.{Given};
+ghost use Rattle.part_values.specs.ArrayValues.{IsDigitLift, IsHBar, AreM1AndW, IsU, PowerOver, HBarOver, WOver};
 use arrays::Coefs;
-use arrays::size;
+use arrays::size_below;
 use division::divide;
 use inverses::inverse;
-use modp_base::base_of_power;
 use modular::add_multiple;
 use modular::difference;
 use modular::multiple;
@@ -28,31 +26,10 @@ use modular::over;
 use modular::product;
 use residues::reduce;
 
-// G, its degree, and m, where f bar = G^m.
-pub struct BarPower {
-    pub base: Coefs,
-    pub degree: usize,
-    pub exponent: usize,
-}
-
 // m1 and w, where h bar = G^m1 · w.
 pub struct Multiplicity {
     pub m1: usize,
     pub w: Coefs,
-}
-
-// "Determine G ∈ GF(p^r)[x] and m ≥ 1 so that f̄ = G^m and G is irreducible", where `bar` is f̄, of degree n = m·d.
-pub fn base_and_exponent(bar: Coefs, n: usize, p: u16) -> BarPower
-    requires { ⌜ PrimaryBar p bar n ⌝ }
-    ensures { λ r. ⌜ Determined p bar n r ⌝ }
-{
-    let found = base_of_power(bar, n, p);
-    let base = found.coefs;
-    BarPower {
-        base: base,
-        degree: found.degree,
-        exponent: n / found.degree,
-    }
 }
 
 // "Choose g ∈ GR(p^2, r)[x] monic so that ḡ = G": by item 5 the coefficients of G, read modulo p².
@@ -62,30 +39,32 @@ pub fn digit_lift(base: Coefs) -> Coefs
     base
 }
 
-// a^k modulo n, where a is monic of degree d.
-fn power(a: Coefs, d: usize, k: usize, n: u16) -> Coefs
-    requires { ⌜ (1 < n) × (k * d ≤ 32) × Monic d (poly n a) × Reduced n 33 a ⌝ }
+// a^k modulo n, where a is monic of degree d: the square of the power to k / 2, and once more a where k is odd.
+pub fn power(a: Coefs, d: usize, k: usize, n: u16) -> Coefs
+    requires { ⌜ (1 ≤ k) × (k * d ≤ 32) × Monic d (poly n a) × Reduced n 33 a ⌝ }
     ensures { λ r. ⌜ Represents n r (pow (𝓩[x]/ n) (poly n a) k) ⌝ }
 {
-    let mut r = [0u16; 33];
-    r[0] = 1;
-    let mut i: usize = 0;
-    while i < k {
-        let v = product(r, i * d + 1, a, d + 1, n);
-        r = v;
-        i += 1;
+    if k == 1 {
+        return a;
     }
-    r
+    let half = k / 2;
+    let h = power(a, d, half, n);
+    let e = half * d;
+    let s = product(h, e + 1, h, e + 1, n);
+    if k % 2 == 0 {
+        return s;
+    }
+    product(a, d + 1, s, 2 * e + 1, n)
 }
 
-// "determine h so that ph = f − g^m": the bar of h. The entries of f − g^m are multiples of p below p², so divided by p they are below p.
-pub fn h_bar(g: Coefs, d: usize, m: usize, f: Coefs, p: u16) -> Coefs
-    requires { ⌜ ((base : List ℕ) × Given p base d m f × Chosen p base d g) ⌝ }
-    ensures { λ r. ⌜ IsHBar p g d m f r ⌝ }
+// "determine h so that ph = f − g^m", where g^m is in `whole`: the bar of h. The entries of f − g^m are multiples of p below p², so divided by p they are
+// below p.
+pub fn h_bar(whole: Coefs, f: Coefs, p: u16) -> Coefs
+    requires { ⌜ PowerOver p f whole ⌝ }
+    ensures { λ r. ⌜ ((P : PowerOver p f whole) → IsHBar p (P .g) (P .d) (P .m) f r) ⌝ }
 {
     let n = p * p;
-    let q = power(g, d, m, n);
-    let e = difference(f, q, n);
+    let e = difference(f, whole, n);
     over(e, p)
 }
 
@@ -101,7 +80,7 @@ pub fn highest(h: Coefs, base: Coefs, d: usize, m: usize, p: u16) -> Multiplicit
     while k < most {
         let v = divide(w, (m - k) * d, base, d, p);
         let rest = v.remainder;
-        let terms = size(rest);
+        let terms = size_below(&rest, d);
         if terms != 0 {
             return Multiplicity { m1: k, w: w };
         }
@@ -114,7 +93,7 @@ pub fn highest(h: Coefs, base: Coefs, d: usize, m: usize, p: u16) -> Multiplicit
 
 // "g^(m−m1) + pw", where k is m − m1, g is monic of degree d and w of lower degree than g^k.
 pub fn last_factor(g: Coefs, d: usize, k: usize, w: Coefs, p: u16) -> Coefs
-    requires { ⌜ (taken p ≡ true) × (k * d ≤ 32) × Monic d (poly (p ²) g) × Reduced p 33 w × Below (k * d) (poly p w) × Reduced (p ²) 33 g ⌝ }
+    requires { ⌜ (taken p ≡ true) × (1 ≤ k) × (k * d ≤ 32) × Monic d (poly (p ²) g) × Reduced p 33 w × Below (k * d) (poly p w) × Reduced (p ²) 33 g ⌝ }
     ensures { λ r. ⌜ Represents (p ²) r (poly (p ²) (spec.lift p (spec.pow (p ²) g k) w)) ⌝ }
 {
     let q = power(g, d, k, p * p);

@@ -1,6 +1,6 @@
 -- Algorithm 4.5 on arrays: what the code makes at each of its returns, from the values that the steps before have given. `SplitByItems`: a part is the one that
 -- items 4 to 9 give, with some g. Proves it return by return, and that with the g of item 5 it is what is promised of a part. Assumes nothing.
-use mathlib.Core.Path.{_≡_, sym, _∙_, ap, ap₂, subst}
+use mathlib.Core.Path.{_≡_, refl, sym, _∙_, ap, ap₂, subst}
 use mathlib.Core.Bool.{Bool, true, false}
 use mathlib.Core.List.{List, [], _∷_}
 use mathlib.Core.Logic.{_≢_}
@@ -95,13 +95,11 @@ module _ {p : ℕ} {base : List ℕ} {d m : ℕ} {part : List ℕ} (given : Give
     returned e = ap partWith (sym (as-printed (large given) (given .over) (chosen .lift) ∙ e))
 
     -- m = 1; item 4: "The factor is the part itself". No g is chosen yet: it holds for every g
-    pub split-basic : m ≡ 1 → {n : ℕ} → m * d ≡ n → SplitByItems p base g d m part (oneFactor base d m Basic part n 1)
-    split-basic e degree =
-        subst (λ n. SplitByItems p base g d m part (oneFactor base d m Basic part n 1)) degree
-        (record {
-          is = returned (returns-basic p G γ m Q e);
-          held = record { base = given .baseHeld; first = given .partHeld; second = none-held };
-        })
+    pub split-basic : m ≡ 1 → SplitByItems p base g d m part (oneFactor base d m Basic part (m * d) 1)
+    split-basic e = record {
+      is = returned (returns-basic p G γ m Q e);
+      held = record { base = given .baseHeld; first = given .partHeld; second = none-held };
+    }
 
     module _ (repeated : m ≢ 1) {h : List ℕ} (H : IsHBar p g d m part h) where
       -- h̄ = 0; item 6: "The factor is g, m times"
@@ -116,13 +114,11 @@ module _ {p : ℕ} {base : List ℕ} {d m : ℕ} {part : List ℕ} (given : Give
         not-zero = isZero-h-false (large given) (given .over) (chosen .lift) (λ e. nonzero (H .is .is ∙ e))
 
         -- m1 = 0; item 7: "The part is irreducible"
-        pub split-solid : k ≡ 0 → {n : ℕ} → m * d ≡ n → SplitByItems p base g d m part (oneFactor base d m Solid part n 1)
-        split-solid e degree =
-            subst (λ n. SplitByItems p base g d m part (oneFactor base d m Solid part n 1)) degree
-            (record {
-              is = returned (returns-solid p G γ m Q repeated not-zero (sym (W .m1Is) ∙ e));
-              held = record { base = given .baseHeld; first = given .partHeld; second = none-held };
-            })
+        pub split-solid : k ≡ 0 → SplitByItems p base g d m part (oneFactor base d m Solid part (m * d) 1)
+        split-solid e = record {
+          is = returned (returns-solid p G γ m Q repeated not-zero (sym (W .m1Is) ∙ e));
+          held = record { base = given .baseHeld; first = given .partHeld; second = none-held };
+        }
 
         degrees : (m - parts.m1 p G γ m Q) * spec.degree G ≡ (m - k) * d
         degrees = ap₂ (λ (j e : ℕ). (m - j) * e) (sym (W .m1Is)) (base-degree given)
@@ -182,12 +178,11 @@ module _ {p : ℕ} {base : List ℕ} {d m : ℕ} {part : List ℕ} (given : Give
                 }
 
   -- with the g of item 5
-  pub part-found : {g : List ℕ} {n : ℕ} {r : Part} → listed d g ≡ parts.digitLift G → m * d ≡ n → SplitByItems p base g d m part r
-      → PartFound p part n r
-  part-found same degree s = record {
+  pub part-found : {g : List ℕ} {r : Part} → listed d g ≡ parts.digitLift G → SplitByItems p base g d m part r → PartFound p part (m * d) r
+  part-found same s = record {
     found = record { power = record { base = G; exponent = m }; part = Q };
     over = given .over;
-    partIs = ap (λ e. listed e part) degree;
+    partIs = refl;
     is = sym (s .is ∙ ap (λ γ. partWith (parts.splitting p G γ m Q)) same);
     held = s .held;
   }

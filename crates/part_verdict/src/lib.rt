@@ -2,14 +2,17 @@
 // `split_part` takes the steps in the order of the text, each under its line; the values are made, and proved, in `part_values`.
 // What is public is so for the crates above, and no entry point of the library.
 ghost use mathlib.Core.Path.{_≡_};
-ghost use Prim.Native.Nat.{_<_, _≤_};
+ghost use Prim.Native.Nat.{_<_, _≤_, _*_};
+ghost use Rattle.specification.specs.Limits.{_²};
 ghost use Rattle.specification.specs.Algorithm45.{isSplit};
-ghost use Rattle.part_values.specs.Primary.{PrimaryArray};
+ghost use Rattle.algebra.specs.Divisibility.{pow};
+ghost use Rattle.algebra.specs.CoefficientLists.{poly, 𝓩[x]/};
+ghost use Rattle.arrays.specs.Represents.{Represents};
+ghost use Rattle.part_values.specs.Given.{Given};
 ghost use Rattle.part_verdict.specs.AsPart.{oneFactor, twoFactors};
 ghost use Rattle.part_verdict.specs.PartFound.{PartFound};
 use arrays::Coefs;
 use arrays::size;
-use part_values::base_and_exponent;
 use part_values::digit_lift;
 use part_values::divided_by_exponent;
 use part_values::h_bar;
@@ -113,24 +116,20 @@ fn splits(m: usize, m1: usize, p: u16) -> bool
     if a == 0 { true } else { m1 <= m - 2 }
 }
 
-// Algorithm 4.5 for r = 1, line by line, where f is primary and of degree n, and `bar` is f̄. `base` is G, of degree d, and `h` is h̄, which is zero where its
+// Algorithm 4.5 for r = 1, line by line, where f is primary, of degree m·d. `base` is G, of degree d, `whole` is g^m, and `h` is h̄, which is zero where its
 // size is 0; w and u are reduced modulo p, so they are w̄ and ū.
-pub fn split_part(f: Coefs, bar: Coefs, n: usize, p: u16) -> Part
-    requires { ⌜ PrimaryArray p f bar n ⌝ }
-    ensures { λ r. ⌜ PartFound p f n r ⌝ }
+pub fn split_part(f: Coefs, base: Coefs, d: usize, m: usize, whole: Coefs, p: u16) -> Part
+    requires { ⌜ Given p base d m f × Represents (p ²) whole (pow (𝓩[x]/ (p ²)) (poly (p ²) base) m) ⌝ }
+    ensures { λ r. ⌜ PartFound p f (m * d) r ⌝ }
 {
-    // "Determine G ∈ GF(p^r)[x] and m ≥ 1 so that f̄ = G^m and G is irreducible."
-    let found = base_and_exponent(bar, n, p);
-    let base = found.base;
-    let d = found.degree;
-    let m = found.exponent;
+    // "Determine G ∈ GF(p^r)[x] and m ≥ 1 so that f̄ = G^m and G is irreducible.": factoring modulo p has determined them, and they are handed in.
     // "if m = 1 then return("f is basic irreducible")"
     if m == 1 {
-        return one_factor(base, d, m, Verdict::Basic, f, n, 1);
+        return one_factor(base, d, m, Verdict::Basic, f, m * d, 1);
     }
     // "Choose g ∈ GR(p^2, r)[x] monic so that ḡ = G and determine h so that ph = f − g^m."
     let g = digit_lift(base);
-    let h = h_bar(g, d, m, f, p);
+    let h = h_bar(whole, f, p);
     // "if h̄ = 0 then return(((g, m)))"
     if size(h) == 0 {
         return one_factor(base, d, m, Verdict::Power, g, d, m);
@@ -141,7 +140,7 @@ pub fn split_part(f: Coefs, bar: Coefs, n: usize, p: u16) -> Part
     let w = top.w;
     // "if m1 = 0 then return("f is irreducible")"
     if m1 == 0 {
-        return one_factor(base, d, m, Verdict::Solid, f, n, 1);
+        return one_factor(base, d, m, Verdict::Solid, f, m * d, 1);
     }
     // "if (p|m) or (m1 ≤ m − 2) then return(((g, m1), (g^(m−m1) + pw, 1)))"
     if splits(m, m1, p) {

@@ -1,1 +1,1 @@
-pub mod PiecesLoop
+pub mod PartsLoop

@@ -1,106 +1,105 @@
-// All parts of a monic f modulo p², in the order of item 3: a stack of pieces, each cut in two or found to be a part.
+// All parts of a monic f modulo p², in the order of item 3: over each power of an irreducible polynomial in its bar one part, cut off of what is left of f.
 // What is public is so for the crates above, and no entry point of the library.
-ghost use mathlib.Core.Path.{_≡_};
-ghost use Rattle.algebra.specs.CoefficientLists.{poly};
+ghost use mathlib.Core.List.{List, _∷_};
+ghost use Prim.Native.Nat.{_*_};
 ghost use Rattle.arrays.specs.Held.{MonicModSquare};
-ghost use Rattle.frobenius.specs.PrimaryPowers.{PrimaryPower};
+ghost use Rattle.part_values.specs.Given.{Given};
 ghost use Rattle.part_verdict.specs.PartFound.{PartFound};
-ghost use Rattle.parts.specs.Pieces.{PartsOf};
+ghost use Rattle.parts.specs.PartsOf.{PartsOf};
+ghost use Rattle.parts.specs.PowersLeft.{Left, FirstPart};
 use arrays::Coefs;
-use part_cut::Radical;
-use part_cut::bar;
-use part_cut::cut_in_two;
-use part_cut::radical_of;
+use modp_factors::Power;
+use modp_factors::factors;
+use modular::modulo;
+use part_lift::cut_off;
 use part_list::Parts;
-use part_list::insert;
+use part_values::power;
 use part_verdict::Factor;
 use part_verdict::Part;
 use part_verdict::Verdict;
 use part_verdict::split_part;
 
-// A monic polynomial modulo p², its degree, and a radical of its bar.
-struct Piece {
-    coefs: Coefs,
+// The first part, and what is left, of the degree given.
+struct PartAndRest {
+    part: Part,
+    rest: Coefs,
     degree: usize,
-    radical: Radical,
 }
 
-// No parts. What stands past the count means nothing, so the contract says nothing of it.
-fn no_parts() -> Parts
-    ensures { λ r. ⌜ r .count ≡ 0 ⌝ }
-{
+// No part. It stands where no part is stored yet, and is not read.
+fn no_part() -> Part {
     let zero = [0u16; 33];
     let factor = Factor {
         coefs: zero,
         degree: 0,
         times: 0,
     };
-    let part = Part {
+    Part {
         base: zero,
         degree: 0,
         exponent: 0,
         verdict: Verdict::Basic,
         first: factor,
         second: factor,
-    };
-    let parts = [part; 32];
-    Parts {
-        count: 0,
-        parts: parts,
     }
 }
 
-// The part that f is, of degree d, where it is not cut: its bar is then a power of one irreducible polynomial.
-fn part_of(f: Coefs, d: usize, p: u16) -> Part
-    requires { ⌜ MonicModSquare p f d × PrimaryPower (poly p f) ⌝ }
-    ensures { λ r. ⌜ PartFound p f d r ⌝ }
+// The part over the power x of the bar of f, which is of degree e, and what it leaves of f; there are other powers.
+fn first_part(f: Coefs, e: usize, x: Power, p: u16) -> PartAndRest
+    requires { ⌜ ((y : Power) × (L : List Power) × Left p f e (x ∷ y ∷ L)) ⌝ }
+    ensures { λ r. ⌜ FirstPart p f e x r ⌝ }
 {
-    let q = bar(f, d, p);
-    split_part(f, q, d, p)
+    let base = x.base;
+    let n = x.exponent * x.degree;
+    let whole = power(base, x.degree, x.exponent, p * p);
+    let cut = cut_off(f, e, whole, n, p);
+    let part = cut.part;
+    let rest = cut.rest;
+    PartAndRest {
+        part: split_part(part, base, x.degree, x.exponent, whole, p),
+        rest: rest,
+        degree: e - n,
+    }
 }
 
-// Items 1 to 9: the parts of f, which is of degree d.
+// The part that f is, where its bar is the power x.
+fn part_over(f: Coefs, x: Power, p: u16) -> Part
+    requires { ⌜ Given p (x .base) (x .degree) (x .exponent) f ⌝ }
+    ensures { λ r. ⌜ PartFound p f (x .exponent * x .degree) r ⌝ }
+{
+    let base = x.base;
+    let whole = power(base, x.degree, x.exponent, p * p);
+    split_part(f, base, x.degree, x.exponent, whole, p)
+}
+
+// Items 1 to 9: the parts of f, which is of degree d. What the others leave is the last part.
 pub fn parts_of(f: Coefs, d: usize, p: u16) -> Parts
     requires { ⌜ MonicModSquare p f d ⌝ }
     ensures { λ r. ⌜ PartsOf p f d r ⌝ }
 {
-    let radical = radical_of(f, d, p);
-    let whole = Piece {
-        coefs: f,
-        degree: d,
-        radical: radical,
-    };
-    let mut pieces = [whole; 32];
-    let mut count: usize = 1;
-    let mut parts = no_parts();
-    while 0 < count {
-        let piece = pieces[count - 1];
-        let q = piece.coefs;
-        let r = piece.radical;
-        let c = cut_in_two(q, piece.degree, r, p);
-        if c.cut {
-            let a = c.first;
-            let b = c.second;
-            let former = c.former;
-            let latter = c.latter;
-            let second = Piece {
-                coefs: b,
-                degree: piece.degree - c.degree,
-                radical: latter,
-            };
-            let first = Piece {
-                coefs: a,
-                degree: c.degree,
-                radical: former,
-            };
-            pieces[count - 1] = second;
-            pieces[count] = first;
-            count += 1;
-        } else {
-            let more = insert(parts, part_of(q, piece.degree, p));
-            parts = more;
-            count -= 1;
-        }
+    let bar = modulo(f, p);
+    let found = factors(bar, d, p);
+    let last = found.count - 1;
+    let none = no_part();
+    let mut parts = [none; 32];
+    let mut rest = f;
+    let mut e = d;
+    let mut i: usize = 0;
+    while i < last {
+        let x = found.powers[i];
+        let first = first_part(rest, e, x, p);
+        let part = first.part;
+        let next = first.rest;
+        parts[i] = part;
+        rest = next;
+        e = first.degree;
+        i += 1;
     }
-    parts
+    let x = found.powers[last];
+    let part = part_over(rest, x, p);
+    parts[last] = part;
+    Parts {
+        count: found.count,
+        parts: parts,
+    }
 }

@@ -3,10 +3,10 @@
 use mathlib.Core.Path.{_≡_, refl, sym, _∙_, ap}
 use mathlib.Core.List.{List}
 use mathlib.Core.Logic.{_≢_}
-use Prim.Native.Nat.{ℕ, suc, _<_, _+_, _*_, _/_, _%_}
-use native.Mathlib.Nat.{div-add-mod', mod-lt}
+use Prim.Native.Nat.{ℕ, suc, _+_, _/_, _%_}
 use native.Mathlib.Numerals.{add-one}
 use native.Mathlib.Omega.{arith}
+use Rattle.algebra.specs.Numbers.{halves}
 use Rattle.algebra.specs.Divisibility.{pow, pow-suc, pow-one, pow-add}
 use Rattle.algebra.specs.PolynomialRing.{_·_}
 use Rattle.algebra.specs.Degree.{Below}
@@ -21,12 +21,6 @@ module _ (n : ℕ) (q : List ℕ) {d : ℕ} (a : ℤ[x]/ n) where
       rw (add-one, pow-suc (𝓩[x]/ n) a i)
       (remainder-as n hv
       (congruent-mul (𝓩[x]/ n) (congruent-equal (𝓩[x]/ n) refl) (hr .congruent)))
-
-halves : (k : ℕ) → (k % 2 < 2) × (k ≡ k / 2 * 2 + k % 2)
-halves k = (mod-lt k (let two : 0 < 2 = omega arith in two), sym (div-add-mod' k 2))
-
-pub halved : (k : ℕ) → 0 < k → k ≢ 1 → (k / 2 < k) × (0 < k / 2)
-halved k l ne = let (past, whole) = halves k in (omega (arith, past, whole), omega (arith, past, whole))
 
 module _ (n : ℕ) (q : List ℕ) {d : ℕ} (a : List ℕ) where
   pub power-one : (k : ℕ) → k ≡ 1 → Reduced n 33 a → Below d (poly n a) → Remainder n q d a (pow (𝓩[x]/ n) (poly n a) k)

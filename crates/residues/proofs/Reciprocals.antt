@@ -1,9 +1,11 @@
 -- Division by a product: with w = (B − 1) / n the number s·w / B is the quotient of s by n, or one less; B is 2^32 or 2^16.
--- Proves it for every s below B, what is left of s in both cases, and that the reciprocal of 16 bits is the upper half of that of 32. Assumes nothing.
+-- Proves it for every s below B, what is left of s in both cases, the quotient, and that the reciprocal of 16 bits is the upper half of that of 32.
+-- Assumes nothing.
 use mathlib.Core.Path.{_≡_, sym, _∙_, ap}
 use Prim.Native.Nat.{ℕ, _≤_, _<_, _+_, _-_, _*_, _/_, _%_}
 use native.Mathlib.Nat.{
   div-add-mod',
+  div-eq-of-lt-le,
   div-div-eq-div-mul,
   mod-lt,
   mul-comm,
@@ -51,6 +53,9 @@ module _ (B n w s : ℕ) (positive : 0 < n) (is : w ≡ (B - 1) / n) (low : s < 
   pub quotient-fits : q < B
   quotient-fits = omega (arith, quotient-low, mul-le-mul-left q positive, low)
 
+  pub more-fits : n ≤ s - q * n → q + 1 < B
+  more-fits l = omega (arith, quotient-low, mul-le-mul-left q positive, low, positive)
+
   left-over : (k r : ℕ) → s ≡ k * n + r → r < n → r ≡ s % n
   left-over k r e l = sym (mod-eq-of-lt l) ∙ sym (mul-add-mod-self-right k n r) ∙ ap (λ (v : ℕ). v % n) (sym e)
 
@@ -59,6 +64,15 @@ module _ (B n w s : ℕ) (positive : 0 < n) (is : w ≡ (B - 1) / n) (low : s < 
 
   pub twice-left : n ≤ s - q * n → s - q * n - n ≡ s % n
   twice-left l = left-over (q + 1) (s - q * n - n) (omega (arith, quotient-low)) (omega (arith, quotient-high))
+
+  goes : (k r : ℕ) → s ≡ k * n + r → r < n → k ≡ s / n
+  goes k r e l = sym (div-eq-of-lt-le n (omega arith) (omega arith))
+
+  pub once-gone : s - q * n < n → q ≡ s / n
+  once-gone l = goes q (s - q * n) (omega (arith, quotient-low)) l
+
+  pub twice-gone : n ≤ s - q * n → q + 1 ≡ s / n
+  twice-gone l = goes (q + 1) (s - q * n - n) (omega (arith, quotient-low)) (omega (arith, quotient-high))
 
 -- 2^32 − 1 over 2^16 is 2^16 − 1
 pub upper-half : (n w : ℕ) → w ≡ 4294967295 / n → w / 65536 ≡ 65535 / n

@@ -24,19 +24,19 @@ pub fn times(c: u16, z: u16, n: u16) -> u16
 }
 
 // (2^32 - 1) / n, with which sums are reduced.
-pub fn reciprocal(n: u16) -> u64
+pub fn reciprocal(n: u16) -> u32
     requires { ⌜ 0 < n ⌝ }
     ensures { λ r. ⌜ r ≡ 4294967295 / n ⌝ }
 {
-    4294967295 / (n as u64)
+    4294967295 / (n as u32)
 }
 
 // s modulo n, where w is the reciprocal of n: a product in place of a division gives the quotient, or one less.
-pub fn reduce_by(n: u16, w: u64, s: u32) -> u16
+pub fn reduce_by(n: u16, w: u32, s: u32) -> u16
     requires { ⌜ (0 < n) × (w ≡ 4294967295 / n) ⌝ }
     ensures { λ r. ⌜ r ≡ s % n ⌝ }
 {
-    let q = (s as u64 * w / 4294967296) as u32;
+    let q = (s as u64 * w as u64 / 4294967296) as u32;
     let t = s - q * (n as u32);
     if t < n as u32 {
         t as u16
@@ -55,8 +55,18 @@ pub fn reduce_narrow(n: u16, w: u16, s: u16) -> u16
     if t < n { t } else { t - n }
 }
 
+// s / n in 16 bits, where w is (2^16 - 1) / n.
+pub fn quotient_narrow(n: u16, w: u16, s: u16) -> u16
+    requires { ⌜ (0 < n) × (w ≡ 65535 / n) ⌝ }
+    ensures { λ r. ⌜ r ≡ s / n ⌝ }
+{
+    let q = (s as u32 * w as u32 / 65536) as u16;
+    let t = s - q * n;
+    if t < n { q } else { q + 1 }
+}
+
 // y + c·z modulo n, where w is the reciprocal of n. Below 256 the sum has 16 bits, of which a machine takes eight at a time.
-pub fn add_product(y: u16, c: u16, z: u16, n: u16, w: u64) -> u16
+pub fn add_product(y: u16, c: u16, z: u16, n: u16, w: u32) -> u16
     requires { ⌜ (w ≡ 4294967295 / n) × (y < n) × (c ≤ n) × (z < n) ⌝ }
     ensures { λ r. ⌜ r ≡ (y + c * z) % n ⌝ }
 {

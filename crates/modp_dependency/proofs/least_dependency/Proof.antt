@@ -28,11 +28,11 @@ use Rattle.modp_dependency.proofs.least_dependency.Statement.{statement
 use Rattle.modp_dependency.proofs.least_dependency.Tie as tie
 
 abbrev Inv-loop : tie.InvT-loop
-Inv-loop first d p images rows₀ image₀ preimage₀ k₀ fresh₀ i₀ rows image preimage k fresh i =
-    Searching p images first d i rows × InHand p images first d i rows image preimage k fresh
+Inv-loop first count d p images rows₀ image₀ preimage₀ k₀ fresh₀ i₀ rows image preimage k fresh i =
+    Searching p images first count d i rows × InHand p images first count d i rows image preimage k fresh
 
 abbrev μ-loop : tie.MeasureT-loop
-μ-loop first d p images rows₀ image₀ preimage₀ k₀ fresh₀ i₀ rows image preimage k fresh i = (d - i) * 35 + cond fresh 34 k
+μ-loop first count d p images rows₀ image₀ preimage₀ k₀ fresh₀ i₀ rows image preimage k fresh i = (count - i) * 35 + cond fresh 34 k
 
 pub least-dependency-spec : {M : Type 1} → statement M
 least-dependency-spec =
@@ -45,10 +45,10 @@ least-dependency-spec =
     (λ c κs. search needs)  -- monomial-requires
     (λ c.
     let turn = c .before .before .before .before .before in
-    sym (turn .before .before .before .pre .3 .reduced (turn .before .loop .i) (turn .loop-test .taken) .len))  -- slice-aggregate-size-below
+    sym (turn .before .before .before .pre .4 .reduced (turn .before .loop .i) (turn .loop-test .taken) .len))  -- slice-aggregate-size-below
     (λ c κs.
     let turn = c .before .before .before .before .before in
-    let images = turn .before .before .before .pre .3 in
+    let images = turn .before .before .before .pre .4 in
     let reduced = images .reduced (turn .before .loop .i) (turn .loop-test .taken) in
     (search needs, omega (arith, reduced .len), zero-above reduced (images .small (turn .before .loop .i) (turn .loop-test .taken))))  -- size-below-requires
     (λ c. rw (c .before .before .before .before .before .if1 .taken) (omega (arith, c .size-below .ensures .limit)))  -- loop-less
@@ -57,7 +57,7 @@ least-dependency-spec =
     let pre = turn .before .before .before .pre in
     let searching = turn .before .loop .inv .0 in
     let monomial = c .before .before .monomial .ensures in
-    (searching, in-hand (reduced-none (pre .0) (pre .3) (turn .loop-test .taken) searching monomial (c .size-below .ensures))))  -- loop-again
+    (searching, in-hand (reduced-none (pre .0) (pre .4) (turn .loop-test .taken) searching monomial (c .size-below .ensures))))  -- loop-again
     (λ c. search needs)  -- sub-row
     (λ c. search needs)  -- mul-row
     (λ c. search needs)  -- array-copy-out-row

@@ -7,7 +7,8 @@ use Rattle.algebra.specs.Monomials.{x^}
 use Rattle.frobenius.specs.FrobeniusPowers.{_^ᴿ_}
 use Rattle.quotients.specs.Remainder.{Remainder}
 use Rattle.quotients.proofs.PowerTurns.{power-more}
-use Rattle.modp_element.specs.Images.{PowerImages, first-power, images-none, images-more, images-done}
+use Rattle.modp_dependency.specs.RemainderImages.{images-done}
+use Rattle.modp_element.specs.Images.{PowerImages, first-power, images-none, images-more}
 use Rattle.modp_element.proofs.images.Statement.{statement}
 use Rattle.modp_element.proofs.images.Tie as tie
 

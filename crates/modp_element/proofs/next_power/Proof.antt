@@ -9,6 +9,7 @@ pub next-power-spec : {M : Type 1} → statement M
 next-power-spec =
     tie.close
     (tie.spec
+    (λ c. search needs)  -- mul-if1
     (λ c κs. search needs)  -- times-power-of-x-requires
     (λ c. search needs)  -- returns
     (λ c κs. search needs)  -- product-modulo-requires

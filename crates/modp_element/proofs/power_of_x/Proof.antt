@@ -12,6 +12,7 @@ pub power-of-x-spec : {M : Type 1} → statement M
 power-of-x-spec =
     tie.close
     (tie.spec
+    (λ c. search needs)  -- mul-if1
     (λ c κs. search needs)  -- monomial-requires
     (λ c κs.
     let pre = c .before .before .pre in

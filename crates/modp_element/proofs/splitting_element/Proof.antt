@@ -1,7 +1,7 @@
 -- `modp_element::splitting_element` meets its contract.
 -- Assumes nothing.
 use borrow.Author.Needs.{needs}
-use Rattle.modp_element.specs.Images.{images-given}
+use Rattle.modp_dependency.specs.RemainderImages.{images-given}
 use Rattle.modp_element.specs.Elements.{element-found}
 use Rattle.modp_element.proofs.splitting_element.Statement.{statement}
 use Rattle.modp_element.proofs.splitting_element.Tie as tie
@@ -11,7 +11,7 @@ splitting-element-spec =
     tie.close
     (tie.spec
     (λ c κs. search needs)  -- images-requires
-    (λ c κs. (c .before .pre .0, c .before .pre .1, search needs, images-given (c .images .ensures)))  -- least-dependency-requires
+    (λ c κs. (c .before .pre .0, c .before .pre .1, search needs, search needs, images-given (c .images .ensures)))  -- least-dependency-requires
     (λ c.
     let pre = c .before .before .pre in
     element-found (pre .0) (pre .3) (c .before .images .ensures) (c .least-dependency .ensures)))  -- returns

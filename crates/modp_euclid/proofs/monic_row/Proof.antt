@@ -1,5 +1,6 @@
 -- `modp_euclid::monic_row` meets its contract.
 -- Assumes nothing.
+use mathlib.Core.Path.{refl}
 use borrow.Author.Needs.{needs}
 use Rattle.modp_euclid.specs.RemainderRows.{monic-row}
 use Rattle.modp_euclid.proofs.monic_row.Statement.{statement}
@@ -12,5 +13,5 @@ monic-row-spec =
     (λ c κs. search needs)  -- monic-multiple-requires
     (λ c κs. search needs)  -- multiple-requires
     (λ c.
-    let h = c .before .before .before .before .before .pre in
-    monic-row (h .2) (c .before .before .monic-multiple .ensures) (c .before .multiple .ensures)))  -- returns
+    let h = c .before .before .before .pre in
+    (monic-row (h .2) (c .before .before .monic-multiple .ensures) (c .before .multiple .ensures), refl)))  -- returns

@@ -1,9 +1,11 @@
 -- `part_lift::correction` meets its contract.
 -- Assumes nothing.
+use mathlib.Core.Path.{refl}
 use native.Mathlib.Numerals.{add-one}
 use native.Mathlib.Omega.{arith}
 use borrow.Author.Needs.{needs}
-use Rattle.part_lift.specs.Correction.{small-left, correction-is}
+use Rattle.algebra.specs.TakenPrimes.{is-positive, square-small}
+use Rattle.part_lift.specs.Correction.{over-reduced, pair, correction-is}
 use Rattle.part_lift.proofs.correction.Statement.{statement}
 use Rattle.part_lift.proofs.correction.Tie as tie
 
@@ -11,35 +13,33 @@ pub correction-spec : {M : Type 1} → statement M
 correction-spec =
     tie.close
     (tie.spec
-    (λ c. search needs)  -- add-remainder
-    (λ c κs. search needs)  -- remainder-requires
+    (λ c. search needs)  -- slice-aggregate-divide-in-place
+    (λ c. search needs)  -- slice-aggregate-divide-in-place-2
+    (λ c. search needs)  -- add-divide-in-place
+    (λ c. search needs)  -- slice-aggregate-divide-in-place-3
+    (λ c. omega (arith, square-small _ (c .before .before .before .pre .monic .prime)))  -- mul-divide-in-place
     (λ c κs.
-    let G = c .before .pre in
-    (omega (arith, G .fits), c .remainder .ensures .reduced, G .inverse .reduced, G .second, G .inverse .small, G .monicSecond))  -- product-modulo-requires
-    (λ c. search needs)  -- add-product
+    let f = c .before .before .before .pre .monic .array in
+    let b = c .before .before .before .pre .base in
+    (f .reduced, refl, b .reduced, omega (arith, f .fits), b .fits, rw add-one (f .monic .below), b .monic))  -- divide-in-place-requires
+    (λ c κs. is-positive (c .before .before .before .before .before .before .pre .monic .prime))  -- modulo-requires
+    (λ c κs. is-positive (c .before .before .before .before .before .before .before .pre .monic .prime))  -- modulo-requires-2
+    (λ c. search needs)  -- sub-inverse-modulo
     (λ c κs.
-    let G = c .before .before .pre in (
-      c .product-modulo .ensures .reduced,
-      G .first,
-      omega (arith, G .fits),
-      omega (arith, G .fits),
-      c .product-modulo .ensures .small,
-      rw add-one
-          (G .monicFirst .below),
-    ))  -- product-requires
-    (λ c κs. search needs)  -- difference-requires
-    (λ c. search needs)  -- add-divide
+    pair (c .before .before .before .before .before .before .before .before .pre) (c .before .before .before .before .divide-in-place .ensures) (c .before .modulo .ensures) (c .modulo2 .ensures))  -- inverse-modulo-requires
+    (λ c κs. is-positive (c .before .before .before .before .before .before .before .before .before .pre .monic .prime))  -- over-requires
     (λ c κs.
-    let d = c .before .before .before in
-    let G = d .before .pre in (
-      c .difference .ensures .reduced,
-      G .second,
-      omega (arith, G .fits),
-      omega (arith, G .fits),
-      small-left G (d .remainder .ensures) (c .before .before .product-modulo .ensures) (c .before .product .ensures) (c .difference .ensures),
-      G .monicSecond,
-    ))  -- divide-requires
+    let C = c .before .before .before .before .before .before .before .before .before .before .pre in
+    let divided = c .before .before .before .before .before .before .divide-in-place .ensures in
+    let coprime = pair C divided (c .before .before .before .modulo .ensures) (c .before .before .modulo2 .ensures) in
+    let u = c .before .inverse-modulo .ensures in (
+      coprime .fitsSecond,
+      over-reduced (is-positive (C .monic .prime)) (divided .remainder) (c .over .ensures),
+      u .reduced,
+      coprime .second,
+      u .small,
+      coprime .monicSecond,
+    ))  -- product-modulo-requires
     (λ c.
-    let d = c .before .before .before .before .before in
-    correction-is (d .before .pre) (d .remainder .ensures) (c .before .before .before .before .product-modulo .ensures)
-    (c .before .before .before .product .ensures) (c .before .before .difference .ensures) (c .before .divide .ensures)))  -- returns
+    correction-is (c .before .before .before .before .before .before .before .before .before .before .before .pre) (c .before .before .before .before .before .before .before .divide-in-place .ensures) (c .before .before .before .before .modulo .ensures) (c .before .before .before .modulo2 .ensures)
+    (c .before .over .ensures) (c .before .before .inverse-modulo .ensures) (c .product-modulo .ensures)))  -- returns

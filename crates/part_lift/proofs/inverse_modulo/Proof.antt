@@ -4,7 +4,7 @@ use native.Mathlib.Numerals.{add-one}
 use native.Mathlib.Omega.{arith}
 use borrow.Author.Needs.{needs}
 use Rattle.algebra.specs.TakenPrimes.{is-prime}
-use Rattle.part_lift.specs.CoprimePair.{inverse-is}
+use Rattle.part_lift.specs.Inverses.{inverse-is}
 use Rattle.part_lift.proofs.inverse_modulo.Statement.{statement}
 use Rattle.part_lift.proofs.inverse_modulo.Tie as tie
 

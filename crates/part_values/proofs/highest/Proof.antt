@@ -3,6 +3,7 @@
 use Prim.Native.Nat.{_≤_, _-_}
 use native.Mathlib.Omega.{arith}
 use borrow.Author.Needs.{needs}
+use Rattle.arrays.specs.SameEntries.{zero-above}
 use Rattle.part_values.specs.Given.{degree-room, part-room, base-is-monic}
 use Rattle.part_values.proofs.Degrees.{rest-room}
 use Rattle.part_values.proofs.Cofactors.{Cofactor, cofactor-none, cofactor-more, cofactor-stop, cofactor-below, cofactor-last}
@@ -33,18 +34,22 @@ highest-spec =
       cofactor-below _ _ _ (base-is-monic (H .given)) (H .is .below) (c .before .loop .inv .0) (omega (arith, c .before .loop .inv .1)),
       base-is-monic (H .given),
     ))  -- divide-requires
-    (λ c κs. search needs)  -- size-requires
+    (λ c. search needs)  -- slice-aggregate-size-below
+    (λ c κs.
+    let divided = c .before .before .divide .ensures in
+    let room = degree-room (c .before .before .before .before .before .pre .0 .given) in
+    (omega (arith, room), omega (arith, room, divided .remainder .len), zero-above (divided .remainder) (divided .small)))  -- size-below-requires
     (λ c H.
-    let pre = c .before .before .before .before .before .before .pre in
+    let pre = c .before .before .before .before .before .before .before .pre in
     are-m1-and-w (H .given) (H .chosen) (H .is) (pre .1)
-    (cofactor-stop _ _ _ (base-is-monic (pre .0 .given)) (c .before .before .before .before .before .loop .inv .0)
-    (c .before .before .before .divide .ensures) (c .before .size .ensures) (c .if1 .taken)))  -- returns
+    (cofactor-stop _ _ _ (base-is-monic (pre .0 .given)) (c .before .before .before .before .before .before .loop .inv .0)
+    (c .before .before .before .before .divide .ensures) (c .before .size-below .ensures) (c .if1 .taken)))  -- returns
     (λ c. search needs)  -- add-k
     (λ c. search needs)  -- loop-less
     (λ c. (
-      cofactor-more _ _ _ (base-is-monic (c .before .before .before .before .before .before .before .pre .0 .given))
-          (c .before .before .before .before .before .before .loop .inv .0)
-          (c .before .before .before .before .divide .ensures) (c .before .before .size .ensures) (c .before .if1 .left),
+      cofactor-more _ _ _ (base-is-monic (c .before .before .before .before .before .before .before .before .pre .0 .given))
+          (c .before .before .before .before .before .before .before .loop .inv .0)
+          (c .before .before .before .before .before .divide .ensures) (c .before .before .size-below .ensures) (c .before .if1 .left),
       search needs,
     ))  -- loop-again
     (λ c H.

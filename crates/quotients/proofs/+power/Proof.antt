@@ -4,7 +4,8 @@ use Prim.Native.Nat.{ℕ, _<_}
 use native.Mathlib.Omega.{arith}
 use borrow.Fn.Kinds.{In}
 use borrow.Fn.PlainCycle.{Measures, is, falls, and}
-use Rattle.quotients.proofs.PowerTurns.{halved, power-one, power-even, power-odd}
+use Rattle.algebra.specs.Numbers.{halved}
+use Rattle.quotients.proofs.PowerTurns.{power-one, power-even, power-odd}
 use Rattle.quotients.proofs.power.Reads as power
 use Rattle.quotients.proofs.power.Kinds as power-kinds
 use Rattle.quotients.proofs.product_modulo.Reads as product

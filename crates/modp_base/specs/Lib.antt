@@ -1,2 +1,0 @@
-pub mod SeparableLoop
-pub mod Bases

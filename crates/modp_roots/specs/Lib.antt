@@ -1,0 +1,4 @@
+pub mod Values
+pub mod LinearDivision
+pub mod BinomialDivision
+pub mod DividedOut
