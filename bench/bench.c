@@ -1,5 +1,6 @@
 /* Times `kuzhmader_split` (the whole answer, from bytes to bytes) and FLINT's `nmod_poly_factor` (of the bar, modulo p) in one process on
- * the same polynomials of degree 32, and of the degrees 8 and 16. A polynomial's time is the best of five rounds of repeated calls; a line has the medians over a kind.
+ * the same polynomials of degree 32, and of the degrees 8 and 16. A polynomial's time is the best of five rounds of repeated calls; a line has the
+ * medians over a kind.
  * Then `kuzhmader_copy` beside `kuzhmader_split` on the same ones, and `kuzhmader_typed` on lines of those of 2 and 7, and on two of powers; then the random
  * ones, without 0x04 and with it, and a plain walk to the run length, which is above 65,535 for nearly all of them.
  * Checksums are given for all polynomials, and for those of 2 and 7 alone, which are the ones of before request 5.

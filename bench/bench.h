@@ -16,8 +16,8 @@
 #define EACH 200
 #define RUN_LIMIT 65535
 
-/* A monic polynomial modulo p², constant first, its sheet, and, where its degree is 32, a typed line of it: p:((..(x+c)*x+c)*x+..)*x+c. From p = 31 on such a line would
-   not fit 255 bytes, and there is none. A coefficient is below 63,001, so a product of two and one more is below 2^32. */
+/* A monic polynomial modulo p², constant first, its sheet, and, where its degree is 32, a typed line of it: p:((..(x+c)*x+c)*x+..)*x+c. From p = 31 on such
+   a line would not fit 255 bytes, and there is none. A coefficient is below 63,001, so a product of two and one more is below 2^32. */
 typedef struct {
     unsigned prime;
     unsigned degree;

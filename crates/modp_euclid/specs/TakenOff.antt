@@ -21,7 +21,7 @@ pub record TakenOff (p : ℕ) (a g : List ℕ) (e : ℕ) (w : List ℕ) (r : ℕ
   pub divided : DividedBy p a g e quotient w
   pub size : Size w r
 
--- as in `divide_by`, but that no array holds the quotient
+-- as in `divide_in_place`, but that no array holds the quotient
 pub record Taking (p : ℕ) (a g : List ℕ) (e i : ℕ) (w : List ℕ) : Type 0 where
   pub quotient : List ℕ
   pub division : PartialDivision p a g e i quotient w

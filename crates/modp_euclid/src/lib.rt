@@ -148,8 +148,8 @@ fn monic_row(a: Coefs, u: Coefs, e: usize, t: usize, p: u16) -> CommonDivisor
     }
 }
 
-// The monic gcd of a and b with the cofactor of a, under the same conditions: u·a leaves x modulo b, and v·a leaves y. The cofactors stay exact: they have
-// one term more at most than the degree of the former remainder is below d.
+// The monic gcd of a and b with the cofactor of a, under the same conditions and where d is 1 or more: u·a leaves x modulo b, and v·a leaves y. The cofactors
+// stay exact: they have one term more at most than the degree of the former remainder is below d.
 pub fn gcd(a: Coefs, b: Coefs, d: usize, p: u16) -> CommonDivisor
     requires { ⌜ Prime p × (0 < d) × (d < 33) × Reduced p 33 a × Reduced p 33 b × Below d (poly p a) × Monic d (poly p b) ⌝ }
     ensures { λ r. ⌜ GcdOf p a b d (r .gcd) (r .degree) × CofactorOf p a b d (r .gcd) (r .cofactor) ⌝ }

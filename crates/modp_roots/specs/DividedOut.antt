@@ -1,5 +1,5 @@
 -- A monic polynomial divided by another as often as it goes: `DividedOut p a n g d r`; `Dividing`, so far as it went, in the
--- loops of `divide_root` and `divide_out`.
+-- loops of `divide_linear_out`, `divide_power`, `divide_root` and `divide_out`.
 -- Proves how such a loop begins, goes on and ends, that what is left divides, and that a divisor is divided out once at least. Assumes nothing.
 use mathlib.Core.Path.{_≡_, sym, _∙_, ap}
 use mathlib.Core.List.{List}

@@ -110,7 +110,8 @@ fn move_down(a: Coefs, k: usize) -> Coefs
     r
 }
 
-// a, of degree n, divided by (x - c)^k = x^k - c as often as it goes, where k is a power of p: each time x - c is divided out k times.
+// a, of degree n, divided by (x - c)^k = x^k - c, where k is a power of p: each time x - c is divided out k times. That it goes no further is not promised:
+// `divide_linear_out` comes last, so that only time rests on it.
 fn divide_power(a: Coefs, n: usize, k: usize, c: u16, p: u16) -> Rest
     requires { ⌜ Prime p × (p < 256) × (n < 33) × (c < p) × PowerOf p k × Reduced p 33 a × Monic n (poly p a) ⌝ }
     ensures { λ r. ⌜ Dividing p (poly p a) n (linear (residue p c)) 1 (r .coefs) (r .degree) (r .times) ⌝ }

@@ -1,4 +1,4 @@
--- Arrays to which `add_in_place` added c·b, from the entry k on or from the first: a + c·x^k·b.
+-- Arrays to which `add_by` or `add_in_place` added c·b, from the entry k on or from the first: a + c·x^k·b.
 -- Proves that such an array represents this polynomial, also where it is lent, and that a part of a reduced array has no entry from n on. Assumes nothing.
 use mathlib.Core.Path.{_≡_, sym, _∙_, ap}
 use mathlib.Core.List.{List}

@@ -1,4 +1,4 @@
--- c·b added to a in place: `Added n a c b r`, entry by entry; `Adding`, the loop of `add_in_place`.
+-- c·b added to a in place: `Added n a c b r`, entry by entry; `Adding`, the loop of `add_by`.
 -- Proves how the loop begins, goes on and ends, and that nothing is added where n divides c. Assumes nothing.
 use mathlib.Core.Path.{_≡_, refl, sym, _∙_, ap}
 use mathlib.Core.List.{List}

@@ -1,4 +1,4 @@
-// Numbers modulo n: remainders, by a division or by a product with the reciprocal, and inverses modulo a prime.
+// Numbers modulo n: remainders and quotients, by a division or by a product with the reciprocal, and inverses modulo a prime.
 // All is public for the crates above, and no entry point of the library.
 ghost use mathlib.Core.Path.{_≡_};
 ghost use Prim.Native.Nat.{_<_, _≤_, _/_, _%_, _+_, _*_};

@@ -1,4 +1,4 @@
--- `division::divide_in_place` meets its contract.
+-- `division::divide_in_place` meets its contract. The loop has divided down to i terms.
 -- Assumes nothing.
 use mathlib.Core.Path.{_≡_, sym, _∙_, ap}
 use Prim.Native.Nat.{ℕ, _<_, _-_, _%_, _*_}
@@ -43,20 +43,25 @@ divide-in-place-spec =
     (λ c κs.
     let h = c .before .before .before .before .before .before .before .before .before .pre in
     let left = c .before .before .before .before .loop .inv in
-    lent-part _ _ _ (left .remainder) (h .2) (below-up (omega arith) (h .6 .below)) (omega (arith, c .before .before .before .loop-test .taken, left .limit)) (search needs)
+    let room = c .before .before .before .loop-test .taken in
+    lent-part _ _ _ (left .remainder) (h .2) (below-up (omega arith) (h .6 .below)) (omega (arith, room, left .limit)) (search needs)
     (c .before .before .before .before .before .reciprocal .ensures))  -- add-by-requires
     (λ c. search needs)  -- loop-less
     (λ c.
     let h = c .before .before .before .before .before .before .before .before .before .before .before .before .pre in
     let inv = c .before .before .before .before .before .before .before .loop .inv in
     let low = inv .remainder .low (c .before .before .before .before .before .before .before .loop .i - 1) in
-    let added = lent-added _ _ _ _ _ (inv .remainder) (h .6 .below) (omega (arith, c .before .before .before .before .before .before .loop-test .taken, inv .limit)) (c .before .before .add-by .ensures) in
+    let room = c .before .before .before .before .before .before .loop-test .taken in
+    let added = lent-added _ _ _ _ _ (inv .remainder) (h .6 .below) (omega (arith, room, inv .limit)) (c .before .before .add-by .ensures) in
     division-more _ _ _ (monic-by-one (h .6)) _ _ _ _ _ _ (search needs) (search needs) (once low) low inv added)  -- loop-again
     (λ c. search needs)  -- loop-less-2
     (λ c.
     let inv = c .before .before .before .loop .inv in
     let low = inv .remainder .low (c .before .before .before .loop .i - 1) in
-    division-passed _ _ _ (monic-by-one (c .before .before .before .before .before .before .before .before .pre .6)) _ _ _ _ _ _ (search needs) (search needs) (once low) low (c .if1 .left) inv)  -- loop-again-2
+    let by = monic-by-one (c .before .before .before .before .before .before .before .before .pre .6) in
+    division-passed _ _ _ by _ _ _ _ _ _ (search needs) (search needs) (once low) low (c .if1 .left) inv)  -- loop-again-2
     (λ c. c .before .loop .inv .remainder .len ∙ sym (c .before .before .before .before .before .before .pre .0 .len))  -- same-length
-    (λ c. c .before .loop .inv .quotient .len ∙ sym (ap length (c .before .before .before .before .before .before .pre .1) ∙ length-replicate {A = ℕ} 33 0))  -- same-length-2
+    (λ c.
+    let zero = c .before .before .before .before .before .before .pre .1 in
+    c .before .loop .inv .quotient .len ∙ sym (ap length zero ∙ length-replicate {A = ℕ} 33 0))  -- same-length-2
     (λ c. division-done _ _ _ (c .before .loop .inv) (c .loop-test .left)))  -- returns

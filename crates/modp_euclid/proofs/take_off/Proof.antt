@@ -1,4 +1,4 @@
--- `modp_euclid::take_off` meets its contract.
+-- `modp_euclid::take_off` meets its contract. The loop has divided down to i terms, with a quotient that no array holds.
 -- Assumes nothing.
 use mathlib.Core.Path.{sym, _∙_}
 use Prim.Native.Nat.{_-_}

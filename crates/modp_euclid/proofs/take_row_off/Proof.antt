@@ -1,4 +1,4 @@
--- `modp_euclid::take_row_off` meets its contract.
+-- `modp_euclid::take_row_off` meets its contract. The loop is that of `take_off`, with as much taken off the cofactor.
 -- Assumes nothing.
 use mathlib.Core.Path.{_≡_, sym, _∙_}
 use Prim.Native.Nat.{suc, _-_, _+_}

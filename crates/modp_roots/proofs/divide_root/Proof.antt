@@ -44,7 +44,8 @@ divide-root-spec =
     (λ c. div-lt-self (search needs) (c .before .before .before .before .before .before .before .pre .0 .large))  -- loop-less
     (λ c.
     let inv = c .before .before .before .before .loop .inv in
-    (dividing-then (inv .0) (c .before .before .divide-power .ensures), power-less (c .before .before .before .before .before .before .before .pre .0) (inv .1) (search needs)))  -- loop-again
+    let prime = c .before .before .before .before .before .before .before .pre .0 in
+    (dividing-then (inv .0) (c .before .before .divide-power .ensures), power-less prime (inv .1) (search needs)))  -- loop-again
     (λ c κs.
     let pre = c .before .before .before .before .pre in
     let D = c .before .loop .inv .0 in

@@ -26,7 +26,8 @@ correction-spec =
     (λ c κs. is-positive (c .before .before .before .before .before .before .before .pre .monic .prime))  -- modulo-requires-2
     (λ c. search needs)  -- sub-inverse-modulo
     (λ c κs.
-    pair (c .before .before .before .before .before .before .before .before .pre) (c .before .before .before .before .divide-in-place .ensures) (c .before .modulo .ensures) (c .modulo2 .ensures))  -- inverse-modulo-requires
+    let at = c .before .before .before .before in
+    pair (at .before .before .before .before .pre) (at .divide-in-place .ensures) (c .before .modulo .ensures) (c .modulo2 .ensures))  -- inverse-modulo-requires
     (λ c κs. is-positive (c .before .before .before .before .before .before .before .before .before .pre .monic .prime))  -- over-requires
     (λ c κs.
     let C = c .before .before .before .before .before .before .before .before .before .before .pre in
@@ -41,5 +42,7 @@ correction-spec =
       coprime .monicSecond,
     ))  -- product-modulo-requires
     (λ c.
-    correction-is (c .before .before .before .before .before .before .before .before .before .before .before .pre) (c .before .before .before .before .before .before .before .divide-in-place .ensures) (c .before .before .before .before .modulo .ensures) (c .before .before .before .modulo2 .ensures)
+    let at = c .before .before .before .before .before .before .before in
+    let bar = c .before .before .before in
+    correction-is (at .before .before .before .before .pre) (at .divide-in-place .ensures) (bar .before .modulo .ensures) (bar .modulo2 .ensures)
     (c .before .over .ensures) (c .before .before .inverse-modulo .ensures) (c .product-modulo .ensures)))  -- returns

@@ -32,5 +32,6 @@ cut-off-spec =
     let part = part-monic C (c .before .before .before .before .correction .ensures) (c .before .before .before .add-multiple .ensures) in
     (f .reduced, refl, part .reduced, omega (arith, f .fits), part .fits, rw add-one (f .monic .below), part .monic))  -- divide-in-place-requires
     (λ c.
-    cut-off-is (c .before .before .before .before .before .before .before .before .pre) (c .before .before .before .before .before .before .before .correction .ensures) (c .before .before .before .before .before .before .add-multiple .ensures)
+    let at = c .before .before .before .before .before .before in
+    cut-off-is (at .before .before .pre) (at .before .correction .ensures) (at .add-multiple .ensures)
     (c .before .before .divide-in-place .ensures)))  -- returns

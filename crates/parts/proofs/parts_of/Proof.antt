@@ -1,4 +1,4 @@
--- `parts::parts_of` meets its contract.
+-- `parts::parts_of` meets its contract. The loop has cut off the parts over the first i powers.
 -- Assumes nothing.
 use mathlib.Core.Path.{_≡_, refl}
 use Prim.Native.Nat.{suc, _≤_, _-_}
