@@ -58,7 +58,7 @@ pub record BaseTaken (p u : ℕ) (f : Factored) (g : ℤ[x]/ p) (r : Factored) :
   pub law : poly p (r .rest) · pow (𝓩[x]/ p) g times ≡ poly p (f .rest)
   pub less : r .degree < f .degree
 
--- all pieces of a radical of what f leaves were divided out
+-- pieces of what f leaves were divided out: what f factors r factors too, and less is left
 pub record PiecesTaken (p u : ℕ) (f r : Factored) : Type 0 where
   pub factored : (Q : ℤ[x]/ p) → FactoredBy p Q u f → FactoredBy p Q u r
   pub less : r .degree < f .degree
