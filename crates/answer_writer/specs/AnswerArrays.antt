@@ -1,9 +1,9 @@
--- The layout of an answer over the code's arrays: the bytes of a factor, of a part and of an answer, as they are written one after the other.
+-- The layout of an answer over the code's arrays: the bytes of a factor and of a part, as they are written one after the other.
 -- Proves that they are those of the definitions; `TotalsOf` says that the struct of the totals has those of some parts; `runOf` is the run length,
 -- if it is asked for. Assumes nothing.
 use mathlib.Core.Path.{_≡_, refl, sym, _∙_, ap, ap₂}
 use mathlib.Core.Bool.{true, cond}
-use mathlib.Core.List.{List, [], _∷_, _++_, map, flatMap}
+use mathlib.Core.List.{List, [], _∷_, _++_, flatMap}
 use Prim.Native.Nat.{ℕ, _≤_, _/_, _%_}
 use native.Mathlib.Omega.{arith}
 use lib.ListN.{length, take}
@@ -16,12 +16,10 @@ use Rattle.specification.specs.Commands.{twoBytes}
 use Rattle.specification.specs.RunLength.{runLength, hasRun}
 use Rattle.specification.specs.Sheets.{Sheet}
 use Rattle.specification.specs.Answers.{verdictNumber}
-use Rattle.lists.specs.FlatMaps.{flatMap-map}
 use Rattle.arrays.specs.Listed.{listed, degree-listed, lower-listed}
 use Rattle.arrays.specs.Held.{MonicModSquare}
 use Rattle.layouts.specs.CoefficientBytes.{coefficientBytes}
-use Rattle.layouts.specs.SheetLayout.{headBytes}
-use Rattle.layouts.specs.AnswerLayout.{factorBytes, partBytes, runBytes, endBytes, answerBytes, factorBytes-is, partBytes-is, runBytes-asked, answerBytes-is}
+use Rattle.layouts.specs.AnswerLayout.{factorBytes, partBytes, runBytes, factorBytes-is, partBytes-is, runBytes-asked}
 use Rattle.commands.specs.declared.Sheet.{Sheet as Struct}
 use Rattle.part_verdict.specs.declared.Factor.{Factor}
 use Rattle.part_verdict.specs.declared.Part.{Part}
@@ -42,16 +40,6 @@ part-is s x long l e =
     ap₂ (λ (d v : ℕ). 0x11 ∷ d ∷ x .exponent ∷ v ∷ flatMap (factorBytes (s .prime)) (asFactors (x .verdict) (x .first) (x .second)))
     (sym (degree-listed (x .degree) (x .base) (omega arith))) e
     ∙ sym (partBytes-is s (asPart x))
-
--- ---- the parts
-
--- the bytes of one of the code's parts
-abbrev pub partWritten : Sheet → Part → List ℕ
-partWritten s x = partBytes s (asPart x)
-
--- and of its list
-abbrev pub partsBytes : Sheet → List Part → List ℕ
-partsBytes s xs = flatMap (partWritten s) xs
 
 -- ---- the end
 
@@ -78,11 +66,3 @@ runOf-asked s e = rw e refl
 -- 0x14 with it, "low byte first"
 pub run-written : (s : Sheet) {r : ℕ} → r ≡ runOf s → s .run ≡ true → 0x14 ∷ r % 256 ∷ r / 256 ∷ [] ≡ runBytes s
 run-written s h e = ap (λ (k : ℕ). 0x14 ∷ twoBytes k) (h ∙ runOf-asked s e) ∙ sym (runBytes-asked s e)
-
--- ---- the whole
-
-pub answer-is : (s : Sheet) (xs : List Part)
-    → headBytes s ++ (partsBytes s xs ++ endBytes s (totalsOf (map asPart xs))) ≡ answerBytes s (map asPart xs)
-answer-is s xs =
-    ap (λ (l : List ℕ). headBytes s ++ (l ++ endBytes s (totalsOf (map asPart xs)))) (sym (flatMap-map (partBytes s) asPart xs))
-    ∙ sym (answerBytes-is s (map asPart xs))

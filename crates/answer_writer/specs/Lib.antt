@@ -1,4 +1,4 @@
 pub mod FactorsWritten
 pub mod AnswerArrays
 pub mod Counting
-pub mod Writable
+pub mod SheetAnswers

@@ -6,25 +6,26 @@ ghost use mathlib.Core.List.{flatMap};
 ghost use Prim.Native.Nat.{_-_, _*_, _≤_, _<_};
 ghost use lib.ListN.{length};
 ghost use Rattle.specification.specs.Limits.{answerArea};
-ghost use Rattle.specification.specs.Answers.{verdictNumber};
-ghost use Rattle.lists.specs.Members.{All};
-ghost use Rattle.layouts.specs.AnswerLayout.{factorBytes, partBytes, runBytes, endBytes, answerBytes};
+ghost use Rattle.specification.specs.Answers.{verdictNumber, answer};
+ghost use Rattle.specification.specs.SheetClaims.{GoodSheet};
+ghost use Rattle.layouts.specs.AnswerLayout.{sheetParts, factorBytes, partBytes, runBytes, endBytes};
 ghost use Rattle.commands.specs.AsSheet.{asSheet};
 ghost use Rattle.part_verdict.specs.AsPart.{asVerdict, asFactor, asFactors, asPart};
-ghost use Rattle.part_list.specs.HeldParts.{held};
+ghost use Rattle.parts.specs.PowersFound.{PowersFound};
 ghost use Rattle.area.specs.Wrote.{Wrote, Room};
 ghost use Rattle.answer_writer.specs.FactorsWritten.{isSplit};
-ghost use Rattle.answer_writer.specs.AnswerArrays.{partsBytes, asTotals, TotalsOf, RunGiven, runOf};
-ghost use Rattle.answer_writer.specs.Counting.{partFactors, Adds, Countable};
-ghost use Rattle.answer_writer.specs.Writable.{DegreesFit, heldParts, Writable};
+ghost use Rattle.answer_writer.specs.AnswerArrays.{asTotals, TotalsOf, RunGiven, runOf};
+ghost use Rattle.answer_writer.specs.Counting.{partFactors, Adds, LowWith, With};
+ghost use Rattle.answer_writer.specs.SheetAnswers.{DegreesFit, partsBytes};
 use area::put;
 use area::put_four;
 use area::put_three;
 use commands::Sheet;
-use part_list::Parts;
+use modp_factors::Powers;
 use part_verdict::Factor;
 use part_verdict::Part;
 use part_verdict::Verdict;
+use parts::next_part;
 use run_length::run_length;
 use sheet_writer::write_coefficients;
 use sheet_writer::write_head;
@@ -34,6 +35,12 @@ pub struct Totals {
     pub factors: usize,
     pub different: usize,
     pub free: usize,
+}
+
+// Where the parts of an answer end, and their totals.
+pub struct PartsWritten {
+    pub after: usize,
+    pub totals: Totals,
 }
 
 // 0x12: degree, how many times, and the commands of its coefficients.
@@ -97,24 +104,6 @@ fn write_part(out: &mut [u8], at: usize, s: Sheet, part: Part) -> usize
     write_factors(out, next, s.prime, verdict, first, second)
 }
 
-// The parts in order.
-fn write_parts(out: &mut [u8], at: usize, s: Sheet, parts: Parts) -> usize
-    requires { ⌜ (parts .count ≤ 32) × All DegreesFit (held parts) × Room (now out) at (partsBytes (asSheet s) (held parts)) ⌝ }
-    ensures { λ r. ⌜ Wrote (now (out .entry)) (now (out .exit)) at (partsBytes (asSheet s) (held parts)) r ⌝ }
-{
-    let items = parts.parts;
-    let count = parts.count;
-    let mut after = at;
-    let mut i: usize = 0;
-    while i < count {
-        let part = items[i];
-        let next = write_part(out, after, s, part);
-        after = next;
-        i += 1;
-    }
-    after
-}
-
 // The totals of a part over G of degree d, with s factors, z of them different.
 fn totals_of(d: usize, s: usize, z: usize) -> Totals
     requires { ⌜ (d ≤ 32) × (1 ≤ s) × (s < 256) ⌝ }
@@ -129,8 +118,8 @@ fn totals_of(d: usize, s: usize, z: usize) -> Totals
 
 // What a part adds to the totals.
 fn part_totals(part: Part) -> Totals
-    requires { ⌜ (part .degree ≤ 32) × (1 ≤ partFactors part) × (partFactors part < 256) ⌝ }
-    ensures { λ r. ⌜ Adds part (r .factors) (r .different) (r .free) ⌝ }
+    requires { ⌜ (part .degree ≤ 32) × (1 ≤ partFactors (asPart part)) × (partFactors (asPart part) < 256) ⌝ }
+    ensures { λ r. ⌜ Adds (asPart part) (r .factors) (r .different) (r .free) ⌝ }
 {
     let verdict = part.verdict;
     let first = part.first;
@@ -142,29 +131,48 @@ fn part_totals(part: Part) -> Totals
     }
 }
 
-// "Each total is counted from the list".
-pub fn count_totals(parts: Parts) -> Totals
-    requires { ⌜ (parts .count ≤ 32) × Countable (held parts) ⌝ }
-    ensures { λ r. ⌜ TotalsOf (heldParts parts) r ⌝ }
+// "Each total is counted from the list": the totals with what one more part adds.
+pub fn with_part(t: Totals, part: Part) -> Totals
+    requires { ⌜ (part .degree ≤ 32) × (1 ≤ partFactors (asPart part)) × LowWith (asPart part) t ⌝ }
+    ensures { λ r. ⌜ With (asPart part) t r ⌝ }
 {
-    let items = parts.parts;
-    let count = parts.count;
-    let mut s: usize = 0;
-    let mut z: usize = 0;
-    let mut r: usize = 0;
+    let more = part_totals(part);
+    Totals {
+        factors: t.factors + more.factors,
+        different: t.different + more.different,
+        free: t.free + more.free,
+    }
+}
+
+// The parts in order, each written and counted when it is cut off of what is left of the sheet's polynomial.
+fn write_parts(out: &mut [u8], at: usize, s: Sheet, found: Powers) -> PartsWritten
+    requires { ⌜ PowersFound (s .prime) (s .coefs) (s .degree) found × GoodSheet (asSheet s) × Room (now out) at (partsBytes (asSheet s)) ⌝ }
+    ensures { λ r. ⌜ Wrote (now (out .entry)) (now (out .exit)) at (partsBytes (asSheet s)) (r .after) × TotalsOf (sheetParts (asSheet s)) (r .totals) ⌝ }
+{
+    let p = s.prime as u16;
+    let mut t = Totals {
+        factors: 0,
+        different: 0,
+        free: 0,
+    };
+    let mut rest = s.coefs;
+    let mut e = s.degree;
+    let mut after = at;
     let mut i: usize = 0;
-    while i < count {
-        let part = items[i];
-        let t = part_totals(part);
-        s += t.factors;
-        z += t.different;
-        r += t.free;
+    while i < found.count {
+        let x = found.powers[i];
+        let next = next_part(rest, e, x, p);
+        let part = next.part;
+        let left = next.rest;
+        after = write_part(out, after, s, part);
+        t = with_part(t, part);
+        rest = left;
+        e = next.degree;
         i += 1;
     }
-    Totals {
-        factors: s,
-        different: z,
-        free: r,
+    PartsWritten {
+        after: after,
+        totals: t,
     }
 }
 
@@ -209,14 +217,14 @@ fn write_end(out: &mut [u8], at: usize, s: Sheet, t: Totals, run: u16) -> usize
     put(out, last, 0x0F)
 }
 
-// The answer to a sheet whose parts these are, from place 0 on.
-pub fn write_answer(out: &mut [u8], s: Sheet, parts: Parts) -> usize
-    requires { ⌜ Writable s parts × (answerArea ≤ length (now out)) ⌝ }
-    ensures { λ r. ⌜ Wrote (now (out .entry)) (now (out .exit)) 0 (answerBytes (asSheet s) (heldParts parts)) r ⌝ }
+// The answer to a sheet, from place 0 on, where the powers in the bar of its polynomial are found.
+pub fn write_answer(out: &mut [u8], s: Sheet, found: Powers) -> usize
+    requires { ⌜ PowersFound (s .prime) (s .coefs) (s .degree) found × GoodSheet (asSheet s) × (answerArea ≤ length (now out)) ⌝ }
+    ensures { λ r. ⌜ Wrote (now (out .entry)) (now (out .exit)) 0 (answer (asSheet s)) r ⌝ }
 {
-    let t = count_totals(parts);
-    let run = run_asked(s);
     let first = write_head(out, 0, s);
-    let last = write_parts(out, first, s, parts);
-    write_end(out, last, s, t, run)
+    let w = write_parts(out, first, s, found);
+    let t = w.totals;
+    let run = run_asked(s);
+    write_end(out, w.after, s, t, run)
 }

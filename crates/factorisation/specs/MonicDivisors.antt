@@ -1,5 +1,5 @@
 -- Monic polynomials as divisors, over any commutative ring with 𝟙 ≢ 𝟘.
--- Proves that a polynomial is monic of one degree only, that a monic divisor of a monic polynomial has at most its degree, that monic
+-- Proves that a polynomial is monic of one degree only, that a monic divisor has at most the degree of what it divides, that monic
 -- polynomials that divide each other are equal, so that they are a choice among associates. Assumes nothing.
 use mathlib.Core.Path.{_≡_, sym, _∙_, ap, ap₂}
 use mathlib.Core.Logic.{_≢_, ⊎-elim}
@@ -31,6 +31,13 @@ module _ {R : Type 0} {𝓡 : CommRing R} where
   pub monic-cancel-eq : {d : ℕ} {g : Poly 𝓡} → Monic d g → {a b : Poly 𝓡} → a · g ≡ b · g → a ≡ b
   monic-cancel-eq {d} m {a} {b} e = divided-unique m a 𝟎 b 𝟎 (below-𝟎 d) (below-𝟎 d) (ap (λ z. z +ᴿ 𝟎) e) .0
 
+  -- a monic divisor of what has d terms, other than 𝟎, is of degree below d
+  pub divisor-below : {d e : ℕ} {a g : Poly 𝓡} → Below d a → a ≢ 𝟎 → Monic e g → _∣_ (PolyRing 𝓡) g a → e < d
+  divisor-below {d} {e} {a} {g} b n m (q, h) = ⊎-elim (λ l. l) (λ l. absurd (n (zero l))) (lt-or-le e d)
+    where
+      zero : d ≤ e → a ≡ 𝟎
+      zero l = sym h ∙ ap (λ c. c · g) (small-multiple m q (rw h (below-up l b))) ∙ zero-mul (PolyRing 𝓡) g
+
   module _ (nontrivial : 𝓡 .𝟙 ≢ 𝓡 .𝟘) where
     monic-not-below : {d : ℕ} {a : Poly 𝓡} → Monic d a → Below d a → ⊥
     monic-not-below {d} m h = nontrivial (sym (m .leading) ∙ h .high d (omega arith))
@@ -39,10 +46,7 @@ module _ {R : Type 0} {𝓡 : CommRing R} where
     monic-nonzero {d} m e = monic-not-below m (rw e (below-𝟎 d))
 
     pub divisor-degree : {d e : ℕ} {a b : Poly 𝓡} → Monic d a → Monic e b → _∣_ (PolyRing 𝓡) a b → d ≤ e
-    divisor-degree {d} {e} {a} {b} m n (q, h) = ⊎-elim (λ l. absurd (monic-nonzero n (zero l))) (λ l. l) (lt-or-le e d)
-      where
-        zero : e < d → b ≡ 𝟎
-        zero l = sym h ∙ ap (λ c. c · a) (small-multiple m q (rw h (below-up (omega arith) (n .below)))) ∙ zero-mul (PolyRing 𝓡) a
+    divisor-degree m n k = omega (arith, divisor-below (n .below) (monic-nonzero n) m k)
 
     pub monic-degree : {d e : ℕ} {a : Poly 𝓡} → Monic d a → Monic e a → d ≡ e
     monic-degree {a = a} m n =

@@ -1,6 +1,6 @@
 -- Linear polynomials x − c as divisors: `NoRoots p a`, none divides a over ℤ/p.
--- Proves that x − c is irreducible, that a monic polynomial of degree 1 is such, so that one without roots of degree 2 or 3 is irreducible, and that
--- divisors and p-th roots of a polynomial without roots have none. Assumes nothing.
+-- Proves that x − c is irreducible, that a monic polynomial of degree 1 is such, that divisors and p-th roots of a polynomial without roots
+-- have none, and that a divisor of degree 1 to 3 is then irreducible. Assumes nothing.
 use mathlib.Core.Path.{_≡_, sym, _∙_, ap, subst}
 use Prim.Native.Nat.{ℕ, zero, suc, _≤_, _<_}
 use native.Mathlib.Nat.{le-refl}
@@ -57,7 +57,7 @@ module _ {p : ℕ} {a : ℤ[x]/ p} where
   no-linear-divisor : NoRoots p a → {b : ℤ[x]/ p} → Monic 1 b → ¬ (_∣_ (𝓩[x]/ p) b a)
   no-linear-divisor none {b} m d = none ((Residues p) .neg (b .coef 0)) (subst (λ e. _∣_ (𝓩[x]/ p) e a) (monic-is-linear m) d)
 
-  pub no-roots-large : {d : ℕ} → Monic d a → 1 ≤ d → NoRoots p a → 1 < d
+  no-roots-large : {d : ℕ} → Monic d a → 1 ≤ d → NoRoots p a → 1 < d
   no-roots-large {d} m l none = go d m l
     where
       go : (d : ℕ) → Monic d a → 1 ≤ d → 1 < d
@@ -66,7 +66,7 @@ module _ {p : ℕ} {a : ℤ[x]/ p} where
       go (suc (suc d)) n k = omega arith
 
 -- the factors of a polynomial of degree 2 or 3 would not both be of degree 2 or more
-pub no-roots-irreducible : {p : ℕ} → Prime p → {d : ℕ} {a : ℤ[x]/ p} → Monic d a → 1 < d → d < 4 → NoRoots p a → Irreducible a
+no-roots-irreducible : {p : ℕ} → Prime p → {d : ℕ} {a : ℤ[x]/ p} → Monic d a → 1 < d → d < 4 → NoRoots p a → Irreducible a
 no-roots-irreducible {p} P {d} {a} m large small none = record { degree = d; positive = omega arith; monic = m; noProduct = product }
   where
     product : {i j : ℕ} {b e : ℤ[x]/ p} → Monic i b → Monic j e → 1 ≤ i → 1 ≤ j → b · e ≡ a → ⊥
@@ -77,3 +77,10 @@ no-roots-irreducible {p} P {d} {a} m large small none = record { degree = d; pos
           no-roots-large mb li (no-roots-divisor (e, (𝓩[x]/ p) .*-comm e b ∙ h) none),
           no-roots-large me lj (no-roots-divisor (b, h) none),
         )
+
+-- a divisor of degree 1, 2 or 3 of a polynomial without roots
+pub low-divisor-irreducible : {p : ℕ} → Prime p → {d : ℕ} {a b : ℤ[x]/ p} → Monic d b → 0 < d → d < 4 → _∣_ (𝓩[x]/ p) b a → NoRoots p a → Irreducible b
+low-divisor-irreducible {p} P {b = b} m pos small e none = no-roots-irreducible P m (no-roots-large m pos free) small free
+  where
+    free : NoRoots p b
+    free = no-roots-divisor e none

@@ -1,24 +1,20 @@
 -- The quotient of a polynomial over ℤ/p by its gcd with its derivative.
--- Proves that it has no square factor: where G divides a exactly k times, G^(k−1) divides the derivative, and so the gcd; and that the gcd is of
--- lower degree than a where the derivative is not 𝟎. Assumes nothing.
+-- Proves that it has no square factor: where G divides a exactly k times, G^(k−1) divides the derivative, and so the gcd. Assumes nothing.
 use mathlib.Core.Path.{_≡_, sym, _∙_, ap, ap₂}
-use mathlib.Core.Logic.{_≢_, ⊎-elim}
-use Prim.Native.Nat.{ℕ, suc, _<_, _≤_, _-_}
+use Prim.Native.Nat.{ℕ, suc, _≤_, _-_}
 use native.Mathlib.Omega.{arith}
-use Rattle.algebra.specs.Numbers.{lt-or-le}
-use Rattle.algebra.specs.Ring.{zero-mul}
 use Rattle.algebra.specs.Identities.{_⊕_, _⊗_, _≈_, solve}
 use Rattle.algebra.specs.Divisibility.{_∣_, pow, pow-zero, pow-suc, one-divides, divides-mul-both}
 use Rattle.algebra.specs.Residues.{residue}
-use Rattle.algebra.specs.PolynomialRing.{_+ᴿ_, _·_, 𝟎, constant}
-use Rattle.algebra.specs.Degree.{Monic, below-up, small-multiple, monic-cancel}
+use Rattle.algebra.specs.PolynomialRing.{_+ᴿ_, _·_, constant}
+use Rattle.algebra.specs.Degree.{Monic, monic-cancel}
 use Rattle.algebra.specs.Fields.{Prime, residue-field, residue-discrete}
 use Rattle.algebra.specs.CoefficientLists.{ℤ[x]/, 𝓩[x]/}
 use Rattle.factorisation.specs.MonicDivisors.{monic-nonzero}
 use Rattle.factorisation.specs.Irreducible.{Irreducible}
 use Rattle.factorisation.specs.Multiplicity.{Multiplicity, multiplicity, power-divides, power-bound}
 use Rattle.factorisation.specs.SquareFree.{SquareFree}
-use Rattle.frobenius.specs.Derivatives.{derivative, derivative-mul, derivative-pow, below-derivative}
+use Rattle.frobenius.specs.Derivatives.{derivative, derivative-mul, derivative-pow}
 
 module _ {p : ℕ} where
   -- G^j divides the derivative of w·G^(j+1)
@@ -59,11 +55,3 @@ module _ {p : ℕ} where
     pub quotient-squarefree : SquareFree b
     quotient-squarefree G I square =
         no-square I square (multiplicity (residue-discrete p) (I .positive) (I .monic) a (monic-nonzero (residue-field p P .oneNeZero) monic))
-
-  -- the gcd is of lower degree, where the derivative is not 𝟎
-  pub gcd-lower : {d e : ℕ} {a g : ℤ[x]/ p} → Monic d a → derivative a ≢ 𝟎 → Monic e g → _∣_ (𝓩[x]/ p) g (derivative a) → e < d
-  gcd-lower {d} {e} {a} {g} monic n m (q, h) = ⊎-elim (λ l. l) (λ l. absurd (n (none l))) (lt-or-le e d)
-    where
-      none : d ≤ e → derivative a ≡ 𝟎
-      none l =
-          sym h ∙ ap (λ c. c · g) (small-multiple m q (rw h (below-up l (below-derivative (monic .below))))) ∙ zero-mul (𝓩[x]/ p) g

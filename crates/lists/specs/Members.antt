@@ -17,12 +17,11 @@ use mathlib.Core.List.{
   Memᴰ·of-map,
 }
 use mathlib.Core.List.{List·Memᴰ·head as here, List·Memᴰ·tail as there}
-use Prim.Native.Nat.{ℕ, zero, suc, _≤_, _<_, zero-le, suc-le-suc}
+use Prim.Native.Nat.{ℕ, zero, suc, _<_, zero-le, suc-le-suc}
 use native.Mathlib.Nat.{le-of-suc-le-suc, not-suc-le-zero}
 use native.Mathlib.Decide.{decLt}
 use native.Mathlib.Omega.{arith}
 use lib.ListN.{length, getD, take, drop, replicate, take-append-drop, List·getD-eq-default}
-use lib.Seq.{getD-take, length-take-le}
 
 infix 50 _∈_
 abbrev pub _∈_ : {A : Type 0} → A → List A → Type 0
@@ -89,10 +88,6 @@ module _ {A : Type 0} (P : A → Type 0) (d : A) where
       at : Dec (k < length l) → P (getD l k d)
       at (yes u) = all-read l h k u
       at (no u) = subst P (sym (List·getD-eq-default l d {n = k} (omega (arith, u)))) p
-
-  -- what holds of the first n holds of each of these
-  pub all-first : (l : List A) (i n : ℕ) → i < n → n ≤ length l → All P (take n l) → P (getD l i d)
-  all-first l i n u v h = subst P (getD-take n l i d u) (all-read (take n l) h i (omega (arith, length-take-le n l v)))
 
 -- ---- two in place of one
 

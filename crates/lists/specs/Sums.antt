@@ -3,7 +3,7 @@
 -- what one member, or two different ones, say of the sum, and how a loop over an array adds up its entries. Assumes nothing.
 use mathlib.Core.Path.{_≡_, refl, sym, _∙_, ap}
 use mathlib.Core.Logic.{_≢_}
-use mathlib.Core.List.{List, [], _∷_, map}
+use mathlib.Core.List.{List, [], _∷_}
 use mathlib.Core.List.{List·Memᴰ·head as here, List·Memᴰ·tail as there}
 use lib.ListN.{length, getD, take}
 use Prim.Native.Nat.{ℕ, zero, suc, _≤_, _<_, _+_, _*_}
@@ -84,11 +84,6 @@ module _ {A : Type 0} where
       go zero q h = let (b, i, k) = h (omega arith) in (b, there i, k)
       go (suc n) q h = (a, here refl, omega arith)
 
-pub total-map : {A C : Type 0} (f : C → ℕ) (g : A → C) (l : List A) → total f (map g l) ≡ total (λ a. f (g a)) l
-unfolding total
-total-map f g [] = refl
-total-map f g (a ∷ l) = ap (λ n. f (g a) + n) (total-map f g l)
-
 -- the sums may be taken in either order
 pub total-swap : {A C : Type 0} (f : A → C → ℕ) (l : List A) (m : List C)
     → total (λ a. total (f a) m) l ≡ total (λ c. total (λ a. f a c) l) m
@@ -99,7 +94,7 @@ total-swap f (a ∷ l) m = ap (λ n. total (f a) m + n) (total-swap f l m) ∙ s
 -- ---- a loop over an array, entry by entry; d is what is read past its end
 
 module _ {A : Type 0} (f : A → ℕ) where
-  pub total-next : (d : A) (l : List A) (i : ℕ) → i < length l → total f (take (suc i) l) ≡ total f (take i l) + f (getD l i d)
+  total-next : (d : A) (l : List A) (i : ℕ) → i < length l → total f (take (suc i) l) ≡ total f (take i l) + f (getD l i d)
   unfolding total
   total-next d [] i u = absurd (omega arith)
   total-next d (a ∷ l) zero u = omega arith
@@ -109,7 +104,7 @@ module _ {A : Type 0} (f : A → ℕ) where
   pub total-more : (d : A) (l : List A) (i : ℕ) {k v : ℕ} → i < length l → k ≡ total f (take i l) → v ≡ f (getD l i d) → k + v ≡ total f (take (i + 1) l)
   total-more d l i u e q = rw (e, q) (sym (total-next d l i u) ∙ ap (λ j. total f (take j l)) (sym (add-one i)))
 
-  pub total-within : (l : List A) (i n : ℕ) → i ≤ n → total f (take i l) ≤ total f (take n l)
+  total-within : (l : List A) (i n : ℕ) → i ≤ n → total f (take i l) ≤ total f (take n l)
   unfolding total
   total-within [] zero zero u = omega arith
   total-within [] zero (suc n) u = omega arith

@@ -1,19 +1,20 @@
 -- The loop of `images`: `PowerImages p q d i images`, the first i images are the remainders of x^(p·k) − x^k by q.
 -- Proves how the powers x^(p·k) are made, and that the loop begins so and goes on so. Assumes nothing.
-use mathlib.Core.Path.{refl, sym, _∙_, ap, ap₂}
+use mathlib.Core.Path.{_≡_, refl, sym, _∙_, ap, ap₂}
 use mathlib.Core.List.{List, _∷_}
-use Prim.Native.Nat.{ℕ, _<_, _-_, _+_}
-use lib.ListN.{set, replicate}
+use Prim.Native.Nat.{ℕ, _<_, _-_, _+_, _%_}
+use native.Mathlib.Nat.{mod-lt}
+use lib.ListN.{getD, set, replicate}
 use Rattle.algebra.specs.Ring.{mul-one, add-neg}
 use Rattle.algebra.specs.Divisibility.{pow, pow-zero, pow-one}
-use Rattle.algebra.specs.Residues.{residue}
+use Rattle.algebra.specs.Residues.{residue, residue-add, residue-mod}
 use Rattle.algebra.specs.PolynomialRing.{_+ᴿ_, _·_, -ᴿ_, x, 𝟏, constant}
 use Rattle.algebra.specs.Monomials.{x^}
 use Rattle.algebra.specs.Degree.{below-up, below-add, below-neg, below-𝟎, monic-pow-x}
-use Rattle.algebra.specs.CoefficientLists.{poly, 𝓩[x]/}
+use Rattle.algebra.specs.CoefficientLists.{poly, Reduced, 𝓩[x]/}
 use Rattle.algebra.specs.Congruence.{congruent-equal, congruent-trans, congruent-add, congruent-mul}
-use Rattle.algebra.specs.ListDivision.{poly-unit}
 use Rattle.arrays.specs.Represents.{Represents, zeros}
+use Rattle.arrays.specs.Terms.{term-added}
 use Rattle.frobenius.specs.FrobeniusPowers.{_^ᴿ_, differenceImages}
 use Rattle.modular.specs.Multiples.{minus-one-multiple}
 use Rattle.quotients.specs.Remainder.{Remainder, remainder-as}
@@ -23,16 +24,15 @@ use Rattle.modp_dependency.specs.RemainderImages.{RemainderImages, images-first
 abbrev pub PowerImages : (p : ℕ) → List ℕ → (d i : ℕ) → List Image → Type 0
 PowerImages p q d i images = RemainderImages p q d (differenceImages p) i images
 
--- a + (p − 1)·x^i is a − x^i
-pub less-power : (p i : ℕ) (a m : List ℕ) → 0 < p
-    → Represents p m (poly p a +ᴿ constant (residue p (p - 1)) · (x^ i · poly p (1 ∷ replicate 32 0))) → Represents p m (poly p a +ᴿ -ᴿ x^ i)
-less-power p i a m pos h = record {
-  reduced = h .reduced;
-  is = h .is
-      ∙ ap (λ b. poly p a +ᴿ b)
-      (minus-one-multiple p pos (x^ i · poly p (1 ∷ replicate 32 0))
-      ∙ ap (λ b. -ᴿ b) (ap (λ b. x^ i · b) (poly-unit p 32) ∙ mul-one (𝓩[x]/ p) (x^ i)));
-}
+-- where the coefficient of x^i is one less, modulo p, there is a − x^i: p − 1 stands for minus one
+pub less-power : (p i : ℕ) {a : List ℕ} {v : ℕ} → 0 < p → Reduced p 33 a → i < 33 → v ≡ (getD a i 0 + (p - 1)) % p
+    → Represents p (set a i v) (poly p a +ᴿ -ᴿ x^ i)
+less-power p i {a} {v} pos r fits e = record { reduced = h .reduced; is = h .is ∙ ap (λ b. poly p a +ᴿ b) (minus-one-multiple p pos (x^ i)) }
+  where
+    h : Represents p (set a i v) (poly p a +ᴿ constant (residue p (p - 1)) · x^ i)
+    h =
+        term-added p i (p - 1) r fits (rw e (mod-lt _ pos))
+        (ap (residue p) e ∙ residue-mod p pos (getD a i 0 + (p - 1)) ∙ residue-add p (getD a i 0) (p - 1))
 
 module _ {p : ℕ} {q : List ℕ} {d : ℕ} where
   -- x^p by shifts of 1, or as a power of x

@@ -1,7 +1,8 @@
 // Splitting modulo a prime p by least dependencies, where q is monic of degree d: an element that splits q, or the answer that q is a power of
 // one irreducible polynomial; and what an element is for a factor of q. What is public is so for the crates above, and no entry
 // point of the library.
-ghost use Prim.Native.Nat.{_<_};
+ghost use mathlib.Core.Path.{_≡_};
+ghost use Prim.Native.Nat.{_<_, _+_, _-_, _%_};
 ghost use Rattle.algebra.specs.Fields.{Prime};
 ghost use Rattle.algebra.specs.PolynomialRing.{_+ᴿ_, _·_, -ᴿ_};
 ghost use Rattle.algebra.specs.Monomials.{x^};
@@ -17,7 +18,6 @@ use arrays::size;
 use modp_dependency::Found;
 use modp_dependency::Image;
 use modp_dependency::least_dependency;
-use modular::add_multiple;
 use quotients::power;
 use quotients::product_modulo;
 use quotients::remainder;
@@ -51,14 +51,21 @@ fn next_power(a: Coefs, y: Coefs, q: Coefs, d: usize, p: u16) -> Coefs
     product_modulo(a, y, q, d, p)
 }
 
-// a - x^i. p - 1 stands for minus one.
+// c - 1 modulo p.
+fn less_one(c: u16, p: u16) -> u16
+    requires { ⌜ c < p ⌝ }
+    ensures { λ r. ⌜ r ≡ (c + (p - 1)) % p ⌝ }
+{
+    if c == 0 { p - 1 } else { c - 1 }
+}
+
+// a - x^i: one coefficient changes.
 fn less_power(a: Coefs, i: usize, p: u16) -> Image
     requires { ⌜ (1 < p) × (i < 33) × Reduced p 33 a ⌝ }
     ensures { λ r. ⌜ Represents p (r .coefs) (poly p a +ᴿ -ᴿ x^ i) ⌝ }
 {
-    let mut unit = [0u16; 33];
-    unit[0] = 1;
-    let m = add_multiple(a, p - 1, unit, i, 1, p);
+    let mut m = a;
+    m[i] = less_one(a[i], p);
     Image { coefs: m }
 }
 

@@ -1,8 +1,9 @@
--- Pieces of a radical of what is left: `PieceHeld`, a piece divides it and has no square factor; `TwoPieces`, `CutOf`, it is cut in two or irreducible;
+-- Pieces of a divisor of what is left: `PieceHeld`, a piece divides it and has no square factor; `TwoPieces`, `CutOf`, it is cut in two or irreducible;
 -- `State`, the powers found and a stack of pieces that are coprime to one another; `work` measures what is left to do.
--- Proves how the state begins, that it goes on with less work where the top piece is cut or divided out, and what it says at the end. Assumes nothing.
+-- Proves that such a divisor is a piece, how the state begins, that it goes on with less work where the top piece is cut or divided out, and what it says at
+-- the end. Assumes nothing.
 use mathlib.Core.Path.{_≡_, refl, _∙_}
-use mathlib.Core.Bool.{true, false}
+use mathlib.Core.Bool.{true, false, false≢true}
 use mathlib.Core.List.{List, [], _∷_}
 use mathlib.Core.List.{List·Memᴰ·head as here}
 use mathlib.Core.Logic.{_⊎_, inl, inr, ⊎-elim}
@@ -39,6 +40,15 @@ pub record PieceHeld (p : ℕ) (a : ℤ[x]/ p) (x : Piece) : Type 0 where
   pub divides : _∣_ (𝓩[x]/ p) (pieceOf p x) a
   pub squarefree : SquareFree (pieceOf p x)
 
+-- a divisor without square factors is a piece, of which no element is known
+pub divisor-held : {p : ℕ} {a : ℤ[x]/ p} {z v : List ℕ} {e : ℕ} → MonicArray p e z → 0 < e → _∣_ (𝓩[x]/ p) (poly p z) a → SquareFree (poly p z)
+    → PieceHeld p a (record { coefs = z; degree = e; element = record { known = false; v = v } })
+divisor-held m l d s = record {
+  whole = record { array = m; positive = l; known = record { reduced = λ y. absurd (false≢true y); splits = λ y. absurd (false≢true y) } };
+  divides = d;
+  squarefree = s;
+}
+
 -- x is y·z, and these are coprime
 pub record TwoPieces (p : ℕ) (x y z : Piece) : Type 0 where
   pub first : Whole p y
@@ -62,6 +72,10 @@ pub record BaseTaken (p u : ℕ) (f : Factored) (g : ℤ[x]/ p) (r : Factored) :
 pub record PiecesTaken (p u : ℕ) (f r : Factored) : Type 0 where
   pub factored : (Q : ℤ[x]/ p) → FactoredBy p Q u f → FactoredBy p Q u r
   pub less : r .degree < f .degree
+
+-- one base alone is enough for what is promised
+pub base-pieces : {p u : ℕ} {f : Factored} {g : ℤ[x]/ p} {r : Factored} → BaseTaken p u f g r → PiecesTaken p u f r
+base-pieces t = record { factored = t .factored; less = t .less }
 
 -- the degrees of the pieces
 unfoldable pub weight : List Piece → ℕ

@@ -1,13 +1,14 @@
--- What `radical_of` finds: `RadicalOf p a n r`, the p-th root of a, or a divisor without square factors.
--- Proves it of the p-th root, where the derivative is 𝟎, and of the quotient by the gcd with the derivative, where it is not. Assumes nothing.
-use mathlib.Core.Path.{_≡_, sym, _∙_, ap}
+-- What `radical_of` finds: `RadicalOf p a n r`, the p-th root of a, or a divisor without square factors; `DivisorOf p a n r`, a monic divisor.
+-- Proves that the quotient by a gcd is such a divisor; and `RadicalOf` of the p-th root, where the derivative is 𝟎, and of every divisor of the quotient
+-- by the gcd with the derivative, where it is not. Assumes nothing.
+use mathlib.Core.Path.{_≡_, refl, sym, _∙_, ap}
 use mathlib.Core.Bool.{true, false, false≢true}
 use mathlib.Core.List.{List}
 use mathlib.Core.Logic.{_≢_}
 use Prim.Native.Nat.{ℕ, _≤_, _<_, _/_, _-_, _+_, _*_}
-use native.Mathlib.Nat.{zero-mul, pos-of-ne-zero, div-le-self}
+use native.Mathlib.Nat.{zero-mul, pos-of-ne-zero, div-le-self, le-refl}
 use native.Mathlib.Omega.{arith}
-use Rattle.algebra.specs.Divisibility.{_∣_}
+use Rattle.algebra.specs.Divisibility.{_∣_, divides-refl, divides-trans}
 use Rattle.algebra.specs.PolynomialRing.{_·_, 𝟎}
 use Rattle.algebra.specs.Degree.{Below, Monic}
 use Rattle.algebra.specs.Leading.{monic-cofactor}
@@ -15,11 +16,13 @@ use Rattle.algebra.specs.Fields.{Prime, residue-field, residue-discrete}
 use Rattle.algebra.specs.CoefficientLists.{ℤ[x]/, 𝓩[x]/, poly, Reduced}
 use Rattle.arrays.specs.Represents.{Represents}
 use Rattle.arrays.specs.Sizes.{Size, size-zero, size-nonzero}
-use Rattle.factorisation.specs.SquareFree.{SquareFree}
+use Rattle.arrays.specs.Held.{MonicArray}
+use Rattle.factorisation.specs.MonicDivisors.{divisor-below}
+use Rattle.factorisation.specs.SquareFree.{SquareFree, squarefree-divisor}
 use Rattle.frobenius.specs.FrobeniusPowers.{_^ᴿ_}
 use Rattle.frobenius.specs.Derivatives.{derivative, below-derivative}
 use Rattle.frobenius.specs.PowerRoots.{degree-multiple, root-monic}
-use Rattle.frobenius.specs.SquareFreeQuotients.{quotient-squarefree, gcd-lower}
+use Rattle.frobenius.specs.SquareFreeQuotients.{quotient-squarefree}
 use Rattle.division.specs.DivisionLoop.{DividedBy, divided-exactly}
 use Rattle.modp_euclid.specs.CommonDivisors.{GcdOf}
 use Rattle.modp_radical.specs.declared.Radical.{Radical}
@@ -33,6 +36,60 @@ pub record RadicalOf (p : ℕ) (a : ℤ[x]/ p) (n : ℕ) (r : Radical) : Type 0 
   pub root : r .rooted ≡ true → (poly p (r .coefs) ^ᴿ p ≡ a) × (r .degree * p ≡ n)
   pub divides : r .rooted ≡ false → _∣_ (𝓩[x]/ p) (poly p (r .coefs)) a
   pub squarefree : r .rooted ≡ false → SquareFree (poly p (r .coefs))
+
+-- a monic divisor of a, which is of degree n, of degree 1 or more and not told as a root
+pub record DivisorOf (p : ℕ) (a : ℤ[x]/ p) (n : ℕ) (r : Radical) : Type 0 where
+  pub positive : 0 < r .degree
+  pub fits : r .degree ≤ n
+  pub reduced : Reduced p 33 (r .coefs)
+  pub monic : Monic (r .degree) (poly p (r .coefs))
+  pub plain : r .rooted ≡ false
+  pub divides : _∣_ (𝓩[x]/ p) (poly p (r .coefs)) a
+
+-- the polynomial itself
+pub divisor-whole : {p n : ℕ} {a : List ℕ} → 0 < n → MonicArray p n a → DivisorOf p (poly p a) n (record { coefs = a; degree = n; rooted = false })
+divisor-whole {p} {n} {a} pos m = record {
+  positive = pos;
+  fits = le-refl n;
+  reduced = m .reduced;
+  monic = m .monic;
+  plain = refl;
+  divides = divides-refl (𝓩[x]/ p) (poly p a);
+}
+
+-- a divisor of a divisor without square factors
+radical-divisor : {p : ℕ} {a : ℤ[x]/ p} {n : ℕ} {z r : Radical} → DivisorOf p a n z → SquareFree (poly p (z .coefs))
+    → DivisorOf p (poly p (z .coefs)) (z .degree) r → RadicalOf p a n r
+radical-divisor {p} Z free R = record {
+  positive = R .positive;
+  fits = omega (arith, R .fits, Z .fits);
+  reduced = R .reduced;
+  monic = R .monic;
+  root = λ t. absurd (false≢true (sym (R .plain) ∙ t));
+  divides = λ t. divides-trans (𝓩[x]/ p) (R .divides) (Z .divides);
+  squarefree = λ t. squarefree-divisor (R .divides) free;
+}
+
+-- the quotient of a by its gcd with v
+module _ {p n : ℕ} {a v g b r : List ℕ} {e : ℕ} (hg : GcdOf p v a n g e) (hb : DividedBy p a g e b r) where
+  multiplies : poly p b · poly p g ≡ poly p a
+  multiplies = ap (λ c. c · poly p g) (divided-exactly p a g (hg .monic) hb (hg .right .0) (hg .right .1) .0) ∙ hg .right .1
+
+  -- v has fewer terms than a, and is not 𝟎
+  pub quotient-divisor : Prime p → Monic n (poly p a) → Below n (poly p v) → poly p v ≢ 𝟎
+      → DivisorOf p (poly p a) n (record { coefs = b; degree = n - e; rooted = false })
+  quotient-divisor P monic terms nonzero =
+      go (monic-cofactor (residue-discrete p) (residue-field p P .oneNeZero) (poly p b) (poly p g) (hg .monic) (rw multiplies monic))
+    where
+      go : (j : ℕ) × Monic j (poly p b) × (j + e ≡ n) → DivisorOf p (poly p a) n (record { coefs = b; degree = n - e; rooted = false })
+      go (j, m, s) = record {
+        positive = omega (arith, divisor-below terms nonzero (hg .monic) (hg .left));
+        fits = omega arith;
+        reduced = hb .quotient;
+        monic = rw (let q : n - e ≡ j = omega arith in q) m;
+        plain = refl;
+        divides = (poly p g, (𝓩[x]/ p) .*-comm (poly p g) (poly p b) ∙ multiplies);
+      }
 
 -- the derivative in an array
 module _ {p : ℕ} (a : List ℕ) {v : List ℕ} (derived : Represents p v (derivative (poly p a))) where
@@ -60,25 +117,11 @@ module _ {p n : ℕ} (P : Prime p) (pos : 0 < n) (a : List ℕ) (monic : Monic n
       whole = degree-multiple P monic (derivative-zero a derived size e)
 
   module _ (nonzero : z ≢ 0) {g b r : List ℕ} {e : ℕ} (hg : GcdOf p v a n g e) (hb : DividedBy p a g e b r) where
-    multiplies : poly p b · poly p g ≡ poly p a
-    multiplies = ap (λ c. c · poly p g) (divided-exactly p a g (hg .monic) hb (hg .right .0) (hg .right .1) .0) ∙ hg .right .1
+    pub derivative-quotient : DivisorOf p (poly p a) n (record { coefs = b; degree = n - e; rooted = false })
+    derivative-quotient = quotient-divisor hg hb P monic (derivative-terms a derived monic) (size-nonzero (derived .reduced) size nonzero)
 
-    lower : e < n
-    lower = gcd-lower monic (λ q. size-nonzero (derived .reduced) size nonzero (derived .is ∙ q)) (hg .monic) (rw (derived .is) at (hg .left))
-
-    quotient-monic : Monic (n - e) (poly p b)
-    quotient-monic = go (monic-cofactor (residue-discrete p) (residue-field p P .oneNeZero) (poly p b) (poly p g) (hg .monic) (rw multiplies monic))
-      where
-        go : (j : ℕ) × Monic j (poly p b) × (j + e ≡ n) → Monic (n - e) (poly p b)
-        go (j, m, s) = rw (let q : n - e ≡ j = omega arith in q) m
-
-    pub radical-quotient : RadicalOf p (poly p a) n (record { coefs = b; degree = n - e; rooted = false })
-    radical-quotient = record {
-      positive = omega (arith, lower);
-      fits = omega arith;
-      reduced = hb .quotient;
-      monic = quotient-monic;
-      root = λ t. absurd (false≢true t);
-      divides = λ t. (poly p g, (𝓩[x]/ p) .*-comm (poly p g) (poly p b) ∙ multiplies);
-      squarefree = λ t. quotient-squarefree P monic multiplies (rw (derived .is) at (hg .greatest));
-    }
+    -- the quotient has no square factor, nor has a divisor of it
+    pub radical-quotient : {q : Radical} → DivisorOf p (poly p b) (n - e) q → RadicalOf p (poly p a) n q
+    radical-quotient =
+        radical-divisor derivative-quotient
+        (quotient-squarefree P monic (multiplies hg hb) (rw (derived .is) at (hg .greatest)))

@@ -1,14 +1,15 @@
 -- Division by x − c, in place: `LinearDivided p c a q r`, the list q is the quotient of a and r the remainder; `Synthetic`, the loop of `divide_linear`.
--- Proves that the loop, which goes down from the highest term, ends so, and that x − c divides a exactly where r is 0. Assumes nothing.
+-- Proves that the loop, which goes down from the highest term by two terms a turn, ends so, and that x − c divides a exactly where r is 0. Assumes nothing.
 use mathlib.Core.Path.{_≡_, refl, sym, _∙_, ap, ap₂, subst}
 use mathlib.Core.List.{List}
 use mathlib.Core.Logic.{_≢_}
 use Prim.Native.Nat.{ℕ, suc, _≤_, _<_, _%_, _+_, _*_}
 use native.Mathlib.Decide.{ℕ-discrete}
-use native.Mathlib.Nat.{mod-lt}
+use native.Mathlib.Nat.{mod-lt, mod-add-mod, add-mod-mod, mul-comm}
 use native.Mathlib.Omega.{arith}
 use lib.ListN.{length, getD, set, drop, length-set}
 use lib.Seq.{getD-set-same, getD-set-other, getD-drop}
+use Rattle.algebra.specs.Numbers.{mul-mod-mod}
 use Rattle.algebra.specs.Ring.{add-zero}
 use Rattle.algebra.specs.Identities.{con, _⊕_, _⊖_, _⊗_, _≈_, solve}
 use Rattle.algebra.specs.Divisibility.{_∣_}
@@ -58,6 +59,16 @@ pub record Synthetic (p c : ℕ) (a : List ℕ) (i : ℕ) (w : List ℕ) (b : �
   pub remainder : b < p
   pub kept : (k : ℕ) → k < i → getD w k 0 ≡ getD a k 0
   pub law : poly p (drop i w) · linear (residue p c) +ᴿ constant (residue p b) ≡ poly p (drop i a)
+
+-- two steps at once: b is multiplied by c², and not twice by c
+two-steps : (p c b y z : ℕ) → ((z + y * c) % p + b * (c * c % p)) % p ≡ (z + (y + b * c) % p * c) % p
+two-steps p c b y z =
+    rw (mod-add-mod, mul-comm ((y + b * c) % p) c, remainder-in (z + y * c) b (c * c), remainder-in z c (y + b * c))
+    (ap (λ (k : ℕ). k % p) (let e : z + y * c + b * (c * c) ≡ z + c * (y + b * c) = omega arith in e))
+  where
+    remainder-in : (k m n : ℕ) → (k + m * (n % p)) % p ≡ (k + m * n) % p
+    remainder-in k m n =
+        sym (add-mod-mod k (m * (n % p)) p) ∙ ap (λ (e : ℕ). (k + e) % p) (mul-mod-mod m n p) ∙ add-mod-mod k (m * n) p
 
 module _ {p c : ℕ} {a : List ℕ} where
   pub synthetic-none : {s : ℕ} → 0 < p → s ≤ length a → Within p a → Below s (poly p a) → Synthetic p c a s a 0
@@ -120,6 +131,16 @@ module _ {p c : ℕ} {a : List ℕ} where
   pub synthetic-more : {i j : ℕ} {w : List ℕ} {b v : ℕ} → i ≡ suc j → Synthetic p c a i w b → v ≡ (getD w j 0 + b * c) % p
       → Synthetic p c a j (set w j b) v
   synthetic-more {w = w} {b} next S is = synthetic-step (subst (λ k. Synthetic p c a k w b) next S) is
+
+  -- two terms more, the terms j + 1 and j below i, where q is c² and t the value of these two alone
+  pub synthetic-two : {i j : ℕ} {w : List ℕ} {b q t u v : ℕ} → i ≡ suc (suc j) → Synthetic p c a i w b → q ≡ c * c % p
+      → t ≡ (getD w j 0 + getD w (j + 1) 0 * c) % p → u ≡ (getD w (j + 1) 0 + b * c) % p → v ≡ (t + b * q) % p
+      → Synthetic p c a j (set (set w (j + 1) b) j u) v
+  synthetic-two {j = j} {w} {b} {q} {t} {u} {v} next S square low high is = synthetic-more (omega arith) (synthetic-more (omega arith) S high) both
+    where
+      both : v ≡ (getD (set w (j + 1) b) j 0 + u * c) % p
+      both =
+          is ∙ rw (square, low, high, getD-set-other w (j + 1) j b 0 (omega arith)) (two-steps p c b (getD w (j + 1) 0) (getD w j 0))
 
   pub synthetic-done : {i : ℕ} {w : List ℕ} {b : ℕ} → i ≤ 0 → Synthetic p c a i w b → LinearDivided p c a w b
   synthetic-done {i} {w} {b} z h = done (subst (λ k. Synthetic p c a k w b) (let e : i ≡ 0 = omega arith in e) h)

@@ -52,21 +52,31 @@ pub fn values(a: Coefs, s: usize, p: u16) -> [u16; 256]
     r
 }
 
-// a, which has s terms, divided by x - c in place: a becomes the quotient, and the remainder is given.
+// a, which has s terms, divided by x - c in place: a becomes the quotient, and the remainder is given. Two terms are taken a turn, as every b waits for the
+// one before: times c² it passes both by one product and one reduction, and t, the value of the two alone, waits for no b.
 fn divide_linear(a: &mut [u16], s: usize, c: u16, p: u16) -> u16
     requires { ⌜ (p < 256) × (c < p) × (s ≤ length (now a)) × Within p (now a) × Below s (poly p (now a)) ⌝ }
     ensures { λ r. ⌜ LinearDivided p c (now (a .entry)) (now (a .exit)) r ⌝ }
 {
     let w = 65535 / p;
+    let square = reduce_narrow(p, w, c * c);
     let mut b: u16 = 0;
     let mut i = s;
-    while 0 < i {
-        i -= 1;
-        let y = a[i];
-        a[i] = b;
-        b = reduce_narrow(p, w, y + b * c);
+    while 1 < i {
+        i -= 2;
+        let y = a[i + 1];
+        let z = a[i];
+        a[i + 1] = b;
+        let t = reduce_narrow(p, w, z + y * c);
+        a[i] = reduce_narrow(p, w, y + b * c);
+        b = reduce_narrow(p, w, t + b * square);
     }
-    b
+    if i == 0 {
+        return b;
+    }
+    let y = a[0];
+    a[0] = b;
+    reduce_narrow(p, w, y + b * c)
 }
 
 // The largest power of p that is at most n.

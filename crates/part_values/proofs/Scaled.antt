@@ -1,13 +1,11 @@
--- Item 8: u = w/m modulo p, by the table of inverses.
--- Proves that the table's entry for m modulo p is the specification's inverse of m, and that w times it is u. Assumes nothing.
-use mathlib.Core.Path.{_≡_, sym, _∙_, ap, subst}
-use mathlib.Core.Bool.{true}
+-- Item 8: u = w/m modulo p, by an inverse of what m leaves modulo p.
+-- Proves that such an inverse is the specification's inverse of m, and that w times it is u. Assumes nothing.
+use mathlib.Core.Path.{_≡_, sym, _∙_, ap}
 use mathlib.Core.List.{List}
 use mathlib.Core.Logic.{_≢_}
 use Prim.Native.Nat.{ℕ, _<_, _%_, _*_}
-use native.Mathlib.Nat.{pos-of-ne-zero}
+use native.Mathlib.Nat.{mul-comm}
 use native.Mathlib.Omega.{arith}
-use Rattle.specification.specs.Limits.{taken}
 use Rattle.specification.specs.Polynomials.{scale}
 use Rattle.specification.specs.Inverses.{inverse}
 use Rattle.specification.specs.Parts as parts
@@ -20,8 +18,6 @@ use Rattle.algebra.specs.CoefficientLists.{poly, poly-scale}
 use Rattle.arrays.specs.Represents.{Represents}
 use Rattle.arrays.specs.Listed.{listed}
 use Rattle.items.specs.PartValues.{values}
-use Rattle.inverses.specs.Rule.{Rule}
-use Rattle.inverses.specs.Answer.{Answer}
 use Rattle.inverses.specs.Unique.{inverse-is}
 use Rattle.part_values.specs.Given as of
 use Rattle.part_values.specs.Given.{Given, Chosen}
@@ -30,21 +26,18 @@ use Rattle.part_values.specs.ArrayValues.{AreM1AndW, IsU}
 scaled-below : (p c : ℕ) (w : List ℕ) {s : ℕ} → 1 < p → Below s (poly p w) → Below s (poly p (scale p c w))
 scaled-below p c w large h = rw (poly-scale p (omega arith) c w) (below-constant-mul (residue p c) h)
 
--- p does not divide m, so the table has an entry for a, what m leaves modulo p
-pub entry-rule : (m : ℕ) {p a c : ℕ} → taken p ≡ true → m % p ≢ 0 → (a ≡ m % p) × (a < p) → Answer p a c → Rule p (m % p) c
-entry-rule m {p} {c = c} t unit (e, l) answer = subst (λ (b : ℕ). Rule p b c) e (answer .rule t (rw e (pos-of-ne-zero unit)) l)
-
-module _ (p m c : ℕ) (large : 1 < p) (rule : Rule p (m % p) c) where
-  -- the entry times m modulo p leaves 1, so with m it leaves 1 too
-  inverse-entry : inverse p m ≡ c
-  inverse-entry = inverse-is p m c (rule .below) (sym (mul-mod-mod c m p) ∙ rule .leavesOne)
+-- c is an inverse of what m leaves modulo p
+module _ (p m c : ℕ) (large : 1 < p) (below : c < p) (unit : m % p * c % p ≡ 1) where
+  -- so it is one of m
+  inverse-of : inverse p m ≡ c
+  inverse-of = inverse-is p m c below (sym (mul-mod-mod c m p) ∙ ap (λ (k : ℕ). k % p) (mul-comm c (m % p)) ∙ unit)
 
   -- w/m modulo p
   pub divided-by : (w : List ℕ) {r : List ℕ} → Represents p r (constant (residue p c) · poly p w)
       → Represents p r (poly p (scale p (inverse p m) w))
   divided-by w h = record {
     reduced = h .reduced;
-    is = h .is ∙ ap (λ (a : ℕ). constant (residue p a) · poly p w) (sym inverse-entry) ∙ sym (poly-scale p (omega arith) (inverse p m) w);
+    is = h .is ∙ ap (λ (a : ℕ). constant (residue p a) · poly p w) (sym inverse-of) ∙ sym (poly-scale p (omega arith) (inverse p m) w);
   }
 
 -- item 8: "u = w/m modulo p"

@@ -38,6 +38,14 @@ pub record Chosen (p : ℕ) (base : List ℕ) (d : ℕ) (g : List ℕ) : Type 0 
   pub held : Held (p ²) d g
   pub lift : LiftOf p (listed d base) (listed d g)
 
+-- "G is irreducible", said of the polynomial over ℤ/p in an array
+pub listed-irreducible : {p : ℕ} {base : List ℕ} {d : ℕ} → 1 < p → MonicArray p d base → Irreducible {𝓡 = Residues p} (poly p base)
+    → claimed.Irreducible p (listed d base)
+listed-irreducible {p} {base} large B I =
+    subst (claimed.Irreducible p)
+    (monic-equal large (list-monic large (I .monic)) (listed-monic large B) (poly-list _ (poly p base) (I .monic .below) ∙ sym (poly-monic B)))
+    (irreducible-list large I)
+
 -- "f̄ = G^m and G is irreducible", said of polynomials over ℤ/p
 pub given-of : {p : ℕ} {f base : List ℕ} {m d : ℕ} → MonicModSquare p f (m * d) → MonicArray p d base → Irreducible {𝓡 = Residues p} (poly p base)
     → 1 ≤ m → poly p f ≡ pow (𝓩[x]/ p) (poly p base) m → Given p base d m f
@@ -45,17 +53,12 @@ given-of {p} {f} {base} {m} {d} F B I positive e = record {
   prime = F .prime;
   baseHeld = held-monic B;
   partHeld = held-monic (F .array);
-  over = part-over large {P = record { base = listed d base; exponent = m }} irreducible positive (to-claimed (F .positive) (square-list F)) bar;
+  over = part-over large {P = record { base = listed d base; exponent = m }} (listed-irreducible large B I) positive
+      (to-claimed (F .positive) (square-list F)) bar;
 }
   where
     large : 1 < p
     large = is-prime (F .prime) .large
-
-    irreducible : claimed.Irreducible p (listed d base)
-    irreducible =
-        subst (claimed.Irreducible p)
-        (monic-equal large (list-monic large (I .monic)) (listed-monic large B) (poly-list _ (poly p base) (I .monic .below) ∙ sym (poly-monic B)))
-        (irreducible-list large I)
 
     bar : spec.reduce p (listed (m * d) f) ≡ spec.pow p (listed d base) m
     bar =

@@ -18,12 +18,12 @@ ghost use Rattle.part_values.specs.ArrayValues.{IsDigitLift, IsHBar, Are
 use arrays::Coefs;
 use arrays::size_below;
 use division::divide;
-use inverses::inverse;
 use modular::add_multiple;
 use modular::difference;
 use modular::multiple;
 use modular::over;
 use modular::product;
+use residues::inverse;
 use residues::reduce;
 
 // m1 and w, where h bar = G^m1 · w.
@@ -100,14 +100,14 @@ pub fn last_factor(g: Coefs, d: usize, k: usize, w: Coefs, p: u16) -> Coefs
     lifted(q, w, k * d, p)
 }
 
-// "Choose u such that ū = (m̄)^−1·w̄", where p does not divide m and w is of lower degree than G. m may be above p: the table is asked for what it leaves.
+// "Choose u such that ū = (m̄)^−1·w̄", where p does not divide m and w is of lower degree than G. m may be above p: what it leaves is inverted.
 pub fn divided_by_exponent(w: Coefs, d: usize, m: usize, p: u16) -> Coefs
     requires { ⌜ WOver p d m w × (m % p ≢ 0) × Below d (poly p w) ⌝ }
     ensures { λ r. ⌜ ((W : WOver p d m w) → IsU p (W .base) (W .g) d m (W .part) r) ⌝ }
 {
-    let a = reduce(p, m as u64) as u8;
-    let c = inverse(p as u8, a);
-    multiple(c as u16, w, d, p)
+    let a = reduce(p, m as u64);
+    let c = inverse(a, p);
+    multiple(c, w, d, p)
 }
 
 // "g + pu", and "g^(m−m1) + pw": q + p·t modulo p², where t has s terms.

@@ -1,1 +1,1 @@
-pub mod PartsLoop
+pub mod PartsInTurn

@@ -1,15 +1,16 @@
 -- What is left of f while its parts are cut off one after the other: `Left p f e L`, f is monic of degree e modulo p², and its bar is the product of the powers
 -- in L, which are in the order of item 3. `FirstPart p f e x r`: r has the part over the power x, split, and what it leaves of f.
--- Proves that such a part can be cut off, if another power is left, and is the whole if none is; and what is left then. Assumes nothing.
+-- Proves that such a part can be cut off, if another power is left, and is the whole if none is; what is left then; and that the degrees tell which. Assumes
+-- nothing.
 use mathlib.Core.Path.{_≡_, refl, sym, _∙_, ap, subst}
 use mathlib.Core.List.{List, [], _∷_, map, map-map}
 use mathlib.Core.List.{List·Memᴰ·head as here, List·Memᴰ·tail as there}
 use mathlib.Core.Logic.{_≢_}
 use Prim.Native.Nat.{ℕ, _≤_, _<_, _-_}
 use native.Mathlib.Omega.{arith}
-use lib.ListN.{length}
 use Rattle.specification.specs.Items1to3.{Before}
 use Rattle.specification.specs.Limits.{_²}
+use Rattle.algebra.specs.Numbers.{square-large}
 use Rattle.algebra.specs.Ring.{CommRing}
 use Rattle.algebra.specs.Divisibility.{Coprime, pow, product, product-nil, product-one, product-cons}
 use Rattle.algebra.specs.PolynomialRing.{_·_}
@@ -17,13 +18,15 @@ use Rattle.algebra.specs.Degree.{Monic, monic-one, monic-mul}
 use Rattle.algebra.specs.Fields.{Prime, residue-field, residue-nontrivial}
 use Rattle.algebra.specs.TakenPrimes.{is-prime}
 use Rattle.algebra.specs.CoefficientLists.{ℤ[x]/, poly, 𝓩[x]/}
+use Rattle.algebra.specs.Monomials.{x^, shift-zero}
 use Rattle.arrays.specs.Represents.{Represents}
 use Rattle.arrays.specs.Held.{MonicArray, MonicModSquare, poly-monic}
+use Rattle.arrays.specs.MonomialArray.{IsMonomial, monomial-represents, monomial-monic}
 use Rattle.lists.specs.Members.{All, all-tail, all-map}
 use Rattle.lists.specs.Sums.{total, total-nil, total-cons}
 use Rattle.lists.specs.InOrder.{InOrder}
 use Rattle.factorisation.specs.Irreducible.{Irreducible}
-use Rattle.factorisation.specs.MonicDivisors.{monic-degree}
+use Rattle.factorisation.specs.MonicDivisors.{monic-degree, monic-cancel-eq}
 use Rattle.factorisation.specs.UniqueFactorisation.{power, coprime-powers, power-coprime}
 use Rattle.items.specs.ItemOrder.{item-3}
 use Rattle.items.specs.Factorisations.{monic-equal}
@@ -103,11 +106,6 @@ module _ {p : ℕ} {f : List ℕ} {e : ℕ} {L : List Power} (w : Left p f e L) 
       monic-degree (residue-nontrivial (prime .large)) (subst (Monic (total powerDegree L)) (w .multiplies) (powers-monic prime L (w .held)))
       (bar-monic p (prime .large) f (w .monic .array .monic))
 
--- one power is left at least, since f is not of degree 0
-pub left-some : {p : ℕ} {f : List ℕ} {e : ℕ} (L : List Power) → Left p f e L → 0 < length L
-left-some [] w = absurd (omega (arith, degrees w, total-nil powerDegree, w .monic .positive))
-left-some (x ∷ L) w = omega arith
-
 module _ {p : ℕ} {f : List ℕ} {e : ℕ} {x : Power} {L : List Power} (w : Left p f e (x ∷ L)) where
   pub first-held : PowerHeld p x
   first-held = w .held x (here refl)
@@ -178,11 +176,45 @@ module _ {p : ℕ} {f : List ℕ} {e : ℕ} {x : Power} (w : Left p f e (x ∷ [
   last-degree : powerDegree x ≡ e
   last-degree = omega (arith, degrees w, total-cons powerDegree x [], total-nil powerDegree)
 
-  pub last-array : MonicArray (p ²) (powerDegree x) f
+  last-array : MonicArray (p ²) (powerDegree x) f
   last-array = subst (λ k. MonicArray (p ²) k f) (sym last-degree) (w .monic .array)
 
-  pub last-bar : poly p f ≡ powerPoly p x
+  last-bar : poly p f ≡ powerPoly p x
   last-bar = sym (w .multiplies) ∙ product-one (𝓩[x]/ p) (powerPoly p x)
 
   pub last-given : Given p (x .base) (x .degree) (x .exponent) f
   last-given = part-given (prime w) (first-held w) last-array last-bar (w .monic .prime)
+
+  -- it leaves 1
+  pub last-found : {part : Part} {one : List ℕ} → PartFound p f (powerDegree x) part → IsMonomial 0 one
+      → FirstPart p f e x (record { part = part; rest = one; degree = 0 })
+  last-found {one = one} t m = record {
+    coefs = f;
+    array = last-array;
+    bar = last-bar;
+    found = t;
+    degree = omega (arith, last-degree);
+    rest = monomial-monic m large²;
+    barRest = λ a q.
+        let g = powerPoly p x in
+        monomial-represents m large .is
+        ∙ monic-cancel-eq (power-monic (prime w) (first-held w)) (shift-zero g ∙ sym last-bar ∙ sym q ∙ (𝓩[x]/ p) .*-comm g a);
+    multiplies = ap (λ a. poly (p ²) f · a) (monomial-represents m large² .is) ∙ (𝓩[x]/ (p ²)) .*-comm (poly (p ²) f) (x^ 0) ∙ shift-zero (poly (p ²) f);
+  }
+    where
+      large : 1 < p
+      large = prime w .large
+
+      large² : 1 < p ²
+      large² = square-large p large
+
+-- ---- which of the two, by the degrees
+
+module _ {p : ℕ} {f : List ℕ} {e : ℕ} {x : Power} where
+  pub none-after : (L : List Power) → Left p f e (x ∷ L) → powerDegree x ≡ e → Left p f e (x ∷ [])
+  none-after [] w q = w
+  none-after (y ∷ L) w q = absurd (omega (arith, first-less w, q))
+
+  pub some-after : (L : List Power) → Left p f e (x ∷ L) → powerDegree x ≢ e → (y : Power) × (M : List Power) × Left p f e (x ∷ y ∷ M)
+  some-after [] w n = absurd (n (last-degree w))
+  some-after (y ∷ L) w n = (y, L, w)

@@ -1,47 +1,37 @@
-// All parts of a monic f modulo p², in the order of item 3: over each power of an irreducible polynomial in its bar one part, cut off of what is left of f.
-// What is public is so for the crates above, and no entry point of the library.
+// The parts of a monic f modulo p², one after the other in the order of item 3: first the powers of irreducible polynomials in its bar, and then over each of
+// them one part, cut off of what is left of f. What is public is so for the crates above, and no entry point of the library.
 ghost use mathlib.Core.List.{List, _∷_};
 ghost use Prim.Native.Nat.{_*_};
 ghost use Rattle.arrays.specs.Held.{MonicModSquare};
 ghost use Rattle.part_values.specs.Given.{Given};
 ghost use Rattle.part_verdict.specs.PartFound.{PartFound};
-ghost use Rattle.parts.specs.PartsOf.{PartsOf};
 ghost use Rattle.parts.specs.PowersLeft.{Left, FirstPart};
+ghost use Rattle.parts.specs.PowersFound.{PowersFound};
 use arrays::Coefs;
+use arrays::monomial;
 use modp_factors::Power;
+use modp_factors::Powers;
 use modp_factors::factors;
 use modular::modulo;
 use part_lift::cut_off;
-use part_list::Parts;
 use part_values::power;
-use part_verdict::Factor;
 use part_verdict::Part;
-use part_verdict::Verdict;
 use part_verdict::split_part;
 
 // The first part, and what is left, of the degree given.
-struct PartAndRest {
-    part: Part,
-    rest: Coefs,
-    degree: usize,
+pub struct PartAndRest {
+    pub part: Part,
+    pub rest: Coefs,
+    pub degree: usize,
 }
 
-// No part. It stands where no part is stored yet, and is not read.
-fn no_part() -> Part {
-    let zero = [0u16; 33];
-    let factor = Factor {
-        coefs: zero,
-        degree: 0,
-        times: 0,
-    };
-    Part {
-        base: zero,
-        degree: 0,
-        exponent: 0,
-        verdict: Verdict::Basic,
-        first: factor,
-        second: factor,
-    }
+// Item 1: the powers in the bar of f, which is of degree d.
+pub fn powers_of(f: Coefs, d: usize, p: u16) -> Powers
+    requires { ⌜ MonicModSquare p f d ⌝ }
+    ensures { λ r. ⌜ PowersFound p f d r ⌝ }
+{
+    let bar = modulo(f, p);
+    factors(bar, d, p)
 }
 
 // The part over the power x of the bar of f, which is of degree e, and what it leaves of f; there are other powers.
@@ -72,34 +62,19 @@ fn part_over(f: Coefs, x: Power, p: u16) -> Part
     split_part(f, base, x.degree, x.exponent, whole, p)
 }
 
-// Items 1 to 9: the parts of f, which is of degree d. What the others leave is the last part.
-pub fn parts_of(f: Coefs, d: usize, p: u16) -> Parts
-    requires { ⌜ MonicModSquare p f d ⌝ }
-    ensures { λ r. ⌜ PartsOf p f d r ⌝ }
+// Items 2 and 4 to 9: the part over the power x, the first that is left in the bar of f, and what it leaves: 1, if it is the last.
+pub fn next_part(f: Coefs, e: usize, x: Power, p: u16) -> PartAndRest
+    requires { ⌜ ((L : List Power) × Left p f e (x ∷ L)) ⌝ }
+    ensures { λ r. ⌜ FirstPart p f e x r ⌝ }
 {
-    let bar = modulo(f, p);
-    let found = factors(bar, d, p);
-    let last = found.count - 1;
-    let none = no_part();
-    let mut parts = [none; 32];
-    let mut rest = f;
-    let mut e = d;
-    let mut i: usize = 0;
-    while i < last {
-        let x = found.powers[i];
-        let first = first_part(rest, e, x, p);
-        let part = first.part;
-        let next = first.rest;
-        parts[i] = part;
-        rest = next;
-        e = first.degree;
-        i += 1;
+    if x.exponent * x.degree == e {
+        let part = part_over(f, x, p);
+        let one = monomial(0);
+        return PartAndRest {
+            part: part,
+            rest: one,
+            degree: 0,
+        };
     }
-    let x = found.powers[last];
-    let part = part_over(rest, x, p);
-    parts[last] = part;
-    Parts {
-        count: found.count,
-        parts: parts,
-    }
+    first_part(f, e, x, p)
 }

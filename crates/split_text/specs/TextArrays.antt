@@ -1,8 +1,8 @@
 -- The lines of an answer over the code's arrays, as they are written one after the other.
 -- Proves that they are those of the definitions. Assumes nothing.
-use mathlib.Core.Path.{_≡_, refl, sym, _∙_, ap, ap₂}
+use mathlib.Core.Path.{_≡_, refl, sym, _∙_, ap}
 use mathlib.Core.Bool.{true, false}
-use mathlib.Core.List.{List, [], _∷_, _++_, map, flatMap}
+use mathlib.Core.List.{List, [], _∷_, _++_, flatMap}
 use Prim.Native.Nat.{ℕ, _≤_, _+_}
 use native.Mathlib.Numerals.{add-one}
 use native.Mathlib.Omega.{arith}
@@ -10,19 +10,17 @@ use lib.ListN.{length, getD, take}
 use lib.Seq.{take-suc}
 use Rattle.specification.specs.Text.{ascii, item, headText, verdictText, coefficientText, factorText, partText, totalText, runText, partsText, answerText}
 use Rattle.specification.specs.Sheets as spec
+use Rattle.specification.specs.Totals.{totalsOf}
 use Rattle.arrays.specs.Listed.{degree-listed}
 use Rattle.part_verdict.specs.declared.Factor.{Factor}
 use Rattle.part_verdict.specs.declared.Part.{Part}
 use Rattle.part_verdict.specs.AsPart.{asVerdict, asFactor, asFactors, asPart}
-use Rattle.part_list.specs.declared.Parts.{Parts}
 use Rattle.layouts.specs.AnswerLayout.{sheetParts}
 use Rattle.commands.specs.declared.Sheet.{Sheet}
 use Rattle.commands.specs.AsSheet.{asSheet}
 use Rattle.area.proofs.Turns.{Turns, each-turn}
 use Rattle.answer_writer.specs.declared.Totals.{Totals}
-use Rattle.answer_writer.specs.AnswerArrays.{asTotals, TotalsOf, runOf, runOf-asked}
-use Rattle.lists.specs.FlatMaps.{flatMap-map}
-use Rattle.answer_writer.specs.Writable.{heldParts}
+use Rattle.answer_writer.specs.AnswerArrays.{asTotals, runOf, runOf-asked}
 
 -- ---- words
 
@@ -52,13 +50,9 @@ part-is x long l =
 
 -- ---- the whole
 
--- the lines of one of the code's parts
-abbrev pub partLines : Part → List ℕ
-partLines x = partText (asPart x)
-
--- and of its list
-abbrev pub heldText : List Part → List ℕ
-heldText xs = flatMap partLines xs
+-- the lines of a sheet's parts
+abbrev pub partLines : spec.Sheet → List ℕ
+partLines s = flatMap partText (sheetParts s)
 
 -- "The last line holds the three totals"
 pub totals-are : (t : Totals)
@@ -75,15 +69,7 @@ pub runText-none : (s : spec.Sheet) → s .run ≡ false → [] ≡ runText s
 unfolding runText
 runText-none s e = rw e refl
 
-pub lines-are : (s : Sheet) → length (s .coefs) ≡ 33 → s .degree ≤ 32 → (xs : List Part) {t : Totals} → TotalsOf (map asPart xs) t
-    → headText (s .prime) (s .degree) ++ heldText xs ++ totalText (asTotals t) ++ runText (asSheet s) ≡ partsText (asSheet s) (map asPart xs)
-unfolding partsText
-lines-are s long l xs e =
-    rw (degree-listed (s .degree) (s .coefs) (omega arith))
-    (ap₂ (λ (parts totals : List ℕ). headText (s .prime) (s .degree) ++ parts ++ totals ++ runText (asSheet s))
-    (sym (flatMap-map partText asPart xs)) (ap totalText e))
-
--- the lines of a sheet's own parts
-pub text-of-sheet : (s : Sheet) (a : Parts) → heldParts a ≡ sheetParts (asSheet s) → partsText (asSheet s) (heldParts a) ≡ answerText (asSheet s)
-unfolding answerText
-text-of-sheet s a is = ap (partsText (asSheet s)) is
+pub lines-are : (s : Sheet) → length (s .coefs) ≡ 33 → s .degree ≤ 32
+    → headText (s .prime) (s .degree) ++ partLines (asSheet s) ++ totalText (totalsOf (sheetParts (asSheet s))) ++ runText (asSheet s) ≡ answerText (asSheet s)
+unfolding partsText answerText
+lines-are s long l = rw (degree-listed (s .degree) (s .coefs) (omega arith)) refl

@@ -6,27 +6,29 @@ ghost use Prim.Native.Nat.{_≤_, _<_};
 ghost use lib.ListN.{length, take};
 ghost use Rattle.specification.specs.SheetClaims.{GoodSheet, sheetLimit};
 ghost use Rattle.specification.specs.Text as text;
-ghost use Rattle.lists.specs.Members.{All};
 ghost use Rattle.arrays.specs.Held.{MonicModSquare};
 ghost use Rattle.commands.specs.AsSheet.{asSheet};
 ghost use Rattle.part_verdict.specs.AsPart.{asVerdict, asFactor, asFactors, asPart};
-ghost use Rattle.part_list.specs.HeldParts.{held};
+ghost use Rattle.layouts.specs.AnswerLayout.{sheetParts};
+ghost use Rattle.parts.specs.PowersFound.{PowersFound};
 ghost use Rattle.area.specs.Wrote.{Wrote, Room};
-ghost use Rattle.answer_writer.specs.AnswerArrays.{asTotals, runOf};
-ghost use Rattle.answer_writer.specs.Writable.{DegreesFit, heldParts, Writable};
-ghost use Rattle.split_text.specs.TextArrays.{heldText};
+ghost use Rattle.answer_writer.specs.AnswerArrays.{asTotals, TotalsOf, runOf};
+ghost use Rattle.answer_writer.specs.SheetAnswers.{DegreesFit};
+ghost use Rattle.split_text.specs.TextArrays.{partLines};
 ghost use Rattle.split_text.specs.TextSize.{textRoom};
+use answer_writer::PartsWritten;
 use answer_writer::Totals;
-use answer_writer::count_totals;
 use answer_writer::is_split;
 use answer_writer::run_asked;
+use answer_writer::with_part;
 use area::put;
 use arrays::Coefs;
 use commands::Sheet;
-use part_list::Parts;
+use modp_factors::Powers;
 use part_verdict::Factor;
 use part_verdict::Part;
 use part_verdict::Verdict;
+use parts::next_part;
 use polynomial::Poly;
 use sheet_reader::read_sheet;
 
@@ -175,22 +177,36 @@ fn write_part(out: &mut [u8], at: usize, part: Part) -> usize
     write_factors(out, next, verdict, first, second)
 }
 
-// The parts in order.
-fn write_parts(out: &mut [u8], at: usize, parts: Parts) -> usize
-    requires { ⌜ (parts .count ≤ 32) × All DegreesFit (held parts) × Room (now out) at (heldText (held parts)) ⌝ }
-    ensures { λ r. ⌜ Wrote (now (out .entry)) (now (out .exit)) at (heldText (held parts)) r ⌝ }
+// The parts in order, each written and counted when it is cut off of what is left of the sheet's polynomial.
+fn write_parts(out: &mut [u8], at: usize, s: Sheet, found: Powers) -> PartsWritten
+    requires { ⌜ PowersFound (s .prime) (s .coefs) (s .degree) found × GoodSheet (asSheet s) × Room (now out) at (partLines (asSheet s)) ⌝ }
+    ensures { λ r. ⌜ Wrote (now (out .entry)) (now (out .exit)) at (partLines (asSheet s)) (r .after) × TotalsOf (sheetParts (asSheet s)) (r .totals) ⌝ }
 {
-    let items = parts.parts;
-    let count = parts.count;
+    let p = s.prime as u16;
+    let mut t = Totals {
+        factors: 0,
+        different: 0,
+        free: 0,
+    };
+    let mut rest = s.coefs;
+    let mut e = s.degree;
     let mut after = at;
     let mut i: usize = 0;
-    while i < count {
-        let part = items[i];
-        let next = write_part(out, after, part);
-        after = next;
+    while i < found.count {
+        let x = found.powers[i];
+        let next = next_part(rest, e, x, p);
+        let part = next.part;
+        let left = next.rest;
+        after = write_part(out, after, part);
+        t = with_part(t, part);
+        rest = left;
+        e = next.degree;
         i += 1;
     }
-    after
+    PartsWritten {
+        after: after,
+        totals: t,
+    }
 }
 
 // "The last line holds the three totals", unless a run follows.
@@ -216,16 +232,16 @@ fn write_run(out: &mut [u8], at: usize, s: Sheet, run: u16) -> usize
     }
 }
 
-// The lines of a sheet whose parts these are.
-fn write_lines(out: &mut [u8], s: Sheet, parts: Parts) -> usize
-    requires { ⌜ Writable s parts × Room (now out) 0 (text.partsText (asSheet s) (heldParts parts)) ⌝ }
-    ensures { λ r. ⌜ Wrote (now (out .entry)) (now (out .exit)) 0 (text.partsText (asSheet s) (heldParts parts)) r ⌝ }
+// The lines for a sheet, where the powers in the bar of its polynomial are found.
+fn write_lines(out: &mut [u8], s: Sheet, found: Powers) -> usize
+    requires { ⌜ PowersFound (s .prime) (s .coefs) (s .degree) found × GoodSheet (asSheet s) × (textRoom ≤ length (now out)) ⌝ }
+    ensures { λ r. ⌜ Wrote (now (out .entry)) (now (out .exit)) 0 (text.answerText (asSheet s)) r ⌝ }
 {
-    let t = count_totals(parts);
-    let run = run_asked(s);
     let first = write_head(out, 0, s.prime, s.degree);
-    let next = write_parts(out, first, parts);
-    let last = write_totals(out, next, t);
+    let w = write_parts(out, first, s, found);
+    let t = w.totals;
+    let last = write_totals(out, w.after, t);
+    let run = run_asked(s);
     write_run(out, last, s, run)
 }
 
@@ -235,8 +251,8 @@ fn answer_text(out: &mut [u8], s: Sheet) -> usize
     ensures { λ r. ⌜ Wrote (now (out .entry)) (now (out .exit)) 0 (text.answerText (asSheet s)) r ⌝ }
 {
     let f = s.coefs;
-    let parts = parts::parts_of(f, s.degree, s.prime as u16);
-    write_lines(out, s, parts)
+    let found = parts::powers_of(f, s.degree, s.prime as u16);
+    write_lines(out, s, found)
 }
 
 // "A refusal prints `refused` number `at` place".

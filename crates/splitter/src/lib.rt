@@ -62,8 +62,8 @@ fn answer_to(out: &mut [u8], s: Sheet) -> usize
     ensures { λ r. ⌜ Wrote (now (out .entry)) (now (out .exit)) 0 (answer (asSheet s)) r ⌝ }
 {
     let f = s.coefs;
-    let parts = parts::parts_of(f, s.degree, s.prime as u16);
-    answer_writer::write_answer(out, s, parts)
+    let found = parts::powers_of(f, s.degree, s.prime as u16);
+    answer_writer::write_answer(out, s, found)
 }
 
 // The answer to a sheet, written into the area.

@@ -1,5 +1,5 @@
 -- The records that have parts: `HasParts`.
--- Proves that such a record holds what `parts::parts_of` asks for. Assumes nothing.
+-- Proves that such a record holds what `parts::powers_of` asks for. Assumes nothing.
 use mathlib.Core.Path.{_≡_}
 use mathlib.Core.Bool.{true}
 use mathlib.Core.Logic.{⊎-elim}

@@ -2,16 +2,17 @@
 // factors. A record that is not proper has number 10, a polynomial that is not monic 13 and one of degree 0 has 5, at place 0 and with no parts. The
 // cases and what must be printed are made by tests/reference.
 ghost use mathlib.Core.Path.{_≡_};
+ghost use Rattle.arrays.specs.Held.{MonicModSquare};
 ghost use Rattle.polynomial.specs.AsRecord.{asRecord};
 ghost use Rattle.test_parts.specs.HasParts.{HasParts};
 use arrays::Coefs;
 use arrays::size;
 use libc::STDIN_FILENO;
-use part_list::Parts;
 use part_verdict::Factor;
 use part_verdict::Part;
 use part_verdict::Verdict;
-use parts::parts_of;
+use parts::next_part;
+use parts::powers_of;
 use polynomial::Poly;
 use polynomial::leading;
 use polynomial::proper;
@@ -65,13 +66,21 @@ fn print_part(part: Part) {
     }
 }
 
-fn print_parts(parts: Parts) {
-    let items = parts.parts;
+fn print_parts(f: Coefs, d: usize, p: u16)
+    requires { ⌜ MonicModSquare p f d ⌝ }
+{
+    let found = powers_of(f, d, p);
+    let mut rest = f;
+    let mut e = d;
     let mut i: usize = 0;
-    while i < 32 {
-        if i < parts.count {
-            print_part(items[i]);
-        }
+    while i < found.count {
+        let x = found.powers[i];
+        let next = next_part(rest, e, x, p);
+        let part = next.part;
+        let left = next.rest;
+        print_part(part);
+        rest = left;
+        e = next.degree;
         i += 1;
     }
 }
@@ -98,7 +107,7 @@ fn work(bytes: [u8; 67]) {
     Line::empty().outcome(number, 0).print();
     if number == 0 {
         let f = a.coefs;
-        print_parts(parts_of(f, size(f) - 1, a.prime as u16));
+        print_parts(f, size(f) - 1, a.prime as u16);
     }
     Line::empty().byte(10).print()
 }

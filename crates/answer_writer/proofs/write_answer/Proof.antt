@@ -2,64 +2,57 @@
 -- Assumes nothing.
 use mathlib.Core.Path.{_≡_, ap}
 use mathlib.Core.List.{_++_}
+use native.Mathlib.Omega.{arith}
 use borrow.Author.Needs.{needs}
-use Rattle.specification.specs.Totals.{totalsOf}
 use Rattle.layouts.specs.AnswerLayout.{endBytes}
 use Rattle.layouts.specs.SheetLayout.{headBytes}
 use Rattle.commands.specs.AsSheet.{asSheet}
-use Rattle.part_list.specs.HeldParts.{held}
 use Rattle.area.specs.Wrote.{Room, wrote-more, wrote-as, room-as, room-first, room-next}
-use Rattle.answer_writer.specs.AnswerArrays.{partsBytes, asTotals, answer-is}
-use Rattle.answer_writer.specs.Writable.{heldParts, writable-degree, writable-countable, answer-room}
+use Rattle.answer_writer.specs.AnswerArrays.{asTotals}
+use Rattle.answer_writer.specs.SheetAnswers.{partsBytes, lastBytes, answer-written, answer-room}
 use Rattle.answer_writer.proofs.write_answer.Statement.{statement}
 use Rattle.answer_writer.proofs.write_answer.Tie as tie
 
-abbrev known : tie.After-write-head → tie.After-run-asked
-known c = c .before .before
-
-abbrev counted : tie.After-write-head → tie.After-count-totals
-counted c = known c .before
-
 abbrev start : tie.After-write-head → tie.Start
-start c = counted c .before .before
+start c = c .before .before .before
 
 abbrev headed : tie.After-write-parts → tie.After-write-head
 headed c = c .before .before .before .before
 
 -- the parts and the end have room after the head
-rest-room : (c : tie.After-write-head) → let a = start c .args in
-    Room (c .write-head .last .0) (c .write-head .result)
-    (partsBytes (asSheet (a .s)) (held (a .parts)) ++ endBytes (asSheet (a .s)) (totalsOf (heldParts (a .parts))))
+rest-room : (c : tie.After-write-head) → let s = asSheet (start c .args .s) in
+    Room (c .write-head .last .0) (c .write-head .result) (partsBytes s ++ lastBytes s)
 rest-room c =
-    let begun = start c in room-next (headBytes (asSheet (begun .args .s))) _ (answer-room (begun .pre .0) (begun .pre .1)) (c .write-head .ensures)
+    let (F, good, long) = start c .pre in
+    let s = asSheet (start c .args .s) in
+    room-next (headBytes s) _ (answer-room s good long) (c .write-head .ensures)
 
 -- the end is that of the totals counted
-counted-end : (c : tie.After-write-head)
-    → endBytes (asSheet (start c .args .s)) (asTotals (counted c .count-totals .result))
-    ≡ endBytes (asSheet (start c .args .s)) (totalsOf (heldParts (start c .args .parts)))
-counted-end c = ap (endBytes (asSheet (start c .args .s))) (counted c .count-totals .ensures)
+counted-end : (c : tie.After-write-parts) → let s = asSheet (start (headed c) .args .s) in endBytes s (asTotals (c .write-parts .result .totals)) ≡ lastBytes s
+counted-end c = ap (endBytes (asSheet (start (headed c) .args .s))) (c .write-parts .ensures .1)
 
 pub write-answer-spec : {M : Type 1} → statement M
 write-answer-spec =
     tie.close
     (tie.spec
-    (λ c κs. (c .before .pre .0 .count, writable-countable (c .before .pre .0)))  -- count-totals-requires
-    (λ c κs. c .before .before .pre .0 .given)  -- run-asked-requires
     (λ c κs.
-    let (writable, room) = c .before .before .before .before .pre in
-    (writable-degree writable, room-first _ _ (answer-room writable room)))  -- write-head-requires
+    let (F, good, long) = c .before .before .pre in
+    (omega (arith, F .left .monic .array .fits), room-first _ _ (answer-room _ good long)))  -- write-head-requires
     (λ c κs.
-    let written = c .before .before .before in
-    let writable = start written .pre .0 in
-    (writable .count, writable .degrees, room-first _ _ (rest-room written)))  -- write-parts-requires
+    let h = c .before .before .before in
+    let (F, good, long) = start h .pre in
+    (F, good, room-first _ _ (rest-room h)))  -- write-parts-requires
     (λ c κs.
-    let written = c .before .before .before in (
-      known (headed written) .run-asked .ensures,
-      room-as (counted-end (headed written)) (room-next _ _ (rest-room (headed written)) (written .write-parts .ensures)),
+    let (F, good, long) = start (headed (c .before .before .before)) .pre in
+    record { monic = F .left .monic; mayAsk = good .mayAsk })  -- run-asked-requires
+    (λ c κs.
+    let w = c .before .before .before .before .before in (
+      c .before .run-asked .ensures,
+      room-as (counted-end w) (room-next _ _ (rest-room (headed w)) (w .write-parts .ensures .0)),
     ))  -- write-end-requires
     (λ c. search needs)  -- same-length
     (λ c.
-    let written = c .before .before .before .before .before .before in
-    let ended = wrote-as (counted-end (headed written)) (c .before .before .write-end .ensures) in
-    wrote-as (answer-is _ (held (start (headed written) .args .parts)))
-    (wrote-more (headed written .write-head .ensures) (wrote-more (written .write-parts .ensures) ended))))  -- returns
+    let w = c .before .before .before .before .before .before .before .before in
+    let ended = wrote-as (counted-end w) (c .before .before .write-end .ensures) in
+    wrote-as (answer-written (asSheet (start (headed w) .args .s)))
+    (wrote-more (headed w .write-head .ensures) (wrote-more (w .write-parts .ensures .0) ended))))  -- returns

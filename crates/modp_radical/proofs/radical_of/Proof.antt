@@ -5,7 +5,7 @@ use native.Mathlib.Omega.{arith}
 use borrow.Author.Needs.{needs}
 use Rattle.algebra.specs.Fields.{prime-pos}
 use Rattle.arrays.specs.SameEntries.{zero-above}
-use Rattle.modp_radical.specs.Radicals.{derivative-terms, derivative-zero, radical-root, radical-quotient}
+use Rattle.modp_radical.specs.Radicals.{derivative-terms, derivative-zero, radical-root, derivative-quotient, radical-quotient}
 use Rattle.modp_radical.proofs.radical_of.Statement.{statement}
 use Rattle.modp_radical.proofs.radical_of.Tie as tie
 
@@ -42,10 +42,22 @@ radical-of-spec =
     let h = c .before .before .before .before .before .before .pre in
     let g = c .before .common-divisor .ensures in
     (h .4, g .reduced, omega (arith, h .3), omega (arith, h .3, g .limit), rw add-one (h .5 .below), g .monic))  -- divide-requires
-    (λ c. search needs)  -- sub-t11
-    (λ c.
+    (λ c. search needs)  -- sub-lowest
+    (λ c κs.
     let h = c .before .before .before .before .before .before .before .before .before .pre in
     let D = c .before .before .before .before .before .before .before .before .derivative .ensures in
     let size = c .before .before .before .before .before .before .size-below .ensures in
-    radical-quotient (h .0) (h .2) _ (h .5) D size (c .before .before .before .before .before .if1 .left)
-    (c .before .before .before .before .common-divisor .ensures) (c .before .before .divide .ensures)))  -- returns-2
+    let g = c .before .before .before .before .common-divisor .ensures in
+    let Q = derivative-quotient (h .0) (h .2) _ (h .5) D size (c .before .before .before .before .before .if1 .left) g (c .before .before .divide .ensures) in (
+      h .0,
+      Q .positive,
+      record { fits = omega (arith, h .3); reduced = Q .reduced; monic = Q .monic },
+      record { fits = omega (arith, h .3, g .limit); reduced = g .reduced; monic = g .monic },
+    ))  -- lowest-requires
+    (λ c.
+    let e = c .before in
+    let h = e .before .before .before .before .before .before .before .before .before .pre in
+    let D = e .before .before .before .before .before .before .before .before .derivative .ensures in
+    let size = e .before .before .before .before .before .before .size-below .ensures in
+    radical-quotient (h .0) (h .2) _ (h .5) D size (e .before .before .before .before .before .if1 .left)
+    (e .before .before .before .before .common-divisor .ensures) (e .before .before .divide .ensures) (c .lowest .ensures)))  -- returns-2

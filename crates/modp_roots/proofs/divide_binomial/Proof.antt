@@ -1,11 +1,12 @@
 -- `modp_roots::divide_binomial` meets its contract. The loop has passed the entries from i on.
 -- Assumes nothing.
-use Prim.Native.Nat.{ℕ, _-_, _+_, _*_, _≤_, _<_}
+use Prim.Native.Nat.{_-_, _+_, _≤_}
 use native.Mathlib.Nat.{le-of-lt}
 use native.Mathlib.Omega.{arith}
 use borrow.Author.Needs.{needs}
 use Rattle.residues.proofs.Widths.{sum-width}
 use Rattle.modp_roots.specs.BinomialDivision.{BinomialSteps, steps-none, steps-more, steps-done}
+use Rattle.modp_roots.proofs.Products.{narrow-product}
 use Rattle.modp_roots.proofs.divide_binomial.Statement.{statement}
 use Rattle.modp_roots.proofs.divide_binomial.Tie as tie
 
@@ -14,10 +15,6 @@ Inv-loop a₀ n k c p w i₀ a i = BinomialSteps p k c a₀ i a × (i ≤ n - k 
 
 abbrev μ-loop : tie.MeasureT-loop
 μ-loop a₀ n k c p w i₀ a i = i
-
--- the product alone
-product-width : (p c z : ℕ) → p < 256 → c < p → z < p → c * z < 65536
-product-width p c z l lc lz = omega (arith, sum-width p 0 c z l (omega arith) (le-of-lt lc) lz)
 
 pub divide-binomial-spec : {M : Type 1} → statement M
 divide-binomial-spec =
@@ -36,7 +33,7 @@ divide-binomial-spec =
     (λ c.
     let pre = c .before .before .before .before .before .pre in
     let low = c .before .before .before .loop .inv .0 .low in
-    record { fits = product-width _ _ _ (pre .0) (pre .1) (low _) })  -- mul-reduce-narrow-3
+    record { fits = narrow-product _ _ _ (pre .0) (le-of-lt (pre .1)) (low _) })  -- mul-reduce-narrow-3
     (λ c.
     let pre = c .before .before .before .before .before .pre in
     let low = c .before .before .before .loop .inv .0 .low in

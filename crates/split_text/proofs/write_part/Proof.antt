@@ -4,11 +4,11 @@ use mathlib.Core.Path.{_≡_}
 use mathlib.Core.List.{List, _++_, flatMap}
 use Prim.Native.Nat.{ℕ}
 use borrow.Author.Needs.{needs}
-use Rattle.specification.specs.Text.{item, verdictText, factorText}
+use Rattle.specification.specs.Text.{item, verdictText, factorText, partText}
 use Rattle.part_verdict.specs.declared.Part.{Part}
-use Rattle.part_verdict.specs.AsPart.{asVerdict, asFactors}
+use Rattle.part_verdict.specs.AsPart.{asVerdict, asFactors, asPart}
 use Rattle.area.specs.Wrote.{Wrote, Room, wrote-more, wrote-as, room-as, room-first, room-next}
-use Rattle.split_text.specs.TextArrays.{partLines, part-is}
+use Rattle.split_text.specs.TextArrays.{part-is}
 use Rattle.split_text.proofs.write_part.Statement.{statement}
 use Rattle.split_text.proofs.write_part.Tie as tie
 
@@ -23,7 +23,7 @@ word x = verdictText (asVerdict (x .verdict))
 abbrev factors : Part → List ℕ
 factors x = flatMap factorText (asFactors (x .verdict) (x .first) (x .second))
 
-whole : (c : tie.Start) → let x = c .args .part in items x ++ word x ++ factors x ≡ partLines x
+whole : (c : tie.Start) → let x = c .args .part in items x ++ word x ++ factors x ≡ partText (asPart x)
 whole c = part-is (c .args .part) (search needs) (c .pre .0 .base)
 
 room : (c : tie.Start) → let x = c .args .part in Room (c .args .out .now) (c .args .at) (items x ++ word x ++ factors x)

@@ -23,10 +23,9 @@ work-spec =
     (λ c κs. search needs)  -- outcome-requires
     (λ c κs. search needs)  -- print-requires
     (λ c κs. search needs)  -- size-requires
-    (λ c. omega (arith, positive _ (is-taken c) (c .size .ensures)))  -- sub-parts-of
-    (λ c. search needs)  -- cast-parts-of
-    (λ c κs. record-monic _ (is-taken (c .before)) (c .before .size .ensures))  -- parts-of-requires
-    (λ c κs. search needs)  -- print-parts-requires
+    (λ c. omega (arith, positive _ (is-taken c) (c .size .ensures)))  -- sub-print-parts
+    (λ c. search needs)  -- cast-print-parts
+    (λ c κs. record-monic _ (is-taken (c .before)) (c .before .size .ensures))  -- print-parts-requires
     (λ c κs. search needs)  -- empty-requires-2
     (λ c κs. search needs)  -- byte-requires
     (λ c κs. search needs)  -- print-requires-2
