@@ -72,28 +72,28 @@ module _ (g : parts.Part → List ℕ) {s : Sheet} {found : Powers} (F : PowersF
       inside : i < length all
       inside = omega (arith, parts-count F)
 
-      pub turn-asks : (L : List Power) × Left (s .prime) rest e (getD (found .powers) i noPower ∷ L)
-      turn-asks = next-left F l (w .left l)
+      pub writing-asks : (L : List Power) × Left (s .prime) rest e (getD (found .powers) i noPower ∷ L)
+      writing-asks = next-left F l (w .left l)
 
       module _ {r : PartAndRest} (c : FirstPart (s .prime) rest e (getD (found .powers) i noPower) r) where
         is : asPart (r .part) ≡ getD all i past
         is = part-at F l (w .left l) c .is
 
-        pub turn-fits : DegreesFit (r .part)
-        turn-fits = degrees-fit (part-at F l (w .left l) c .held)
+        pub writing-fits : DegreesFit (r .part)
+        writing-fits = degrees-fit (part-at F l (w .left l) c .held)
 
-        pub turn-room : Room new after (g (asPart (r .part)))
-        turn-room = subst (λ P. Room new after (g P)) (sym is) (written-room turns (w .written) inside whole)
+        pub writing-room : Room new after (g (asPart (r .part)))
+        writing-room = subst (λ P. Room new after (g P)) (sym is) (written-room turns (w .written) inside whole)
 
-        pub turn-low : LowWith (asPart (r .part)) t
-        turn-low = subst (λ P. LowWith P t) (sym is) (counted-low past all i inside (w .counted) (countable (asSheet s) good))
+        pub writing-low : LowWith (asPart (r .part)) t
+        writing-low = subst (λ P. LowWith P t) (sym is) (counted-low past all i inside (w .counted) (countable (asSheet s) good))
 
-        pub turn-repeated : 1 ≤ partFactors (asPart (r .part))
-        turn-repeated = subst (λ P. 1 ≤ partFactors P) (sym is) (part-repeated past all i inside (w .counted) (countable (asSheet s) good))
+        pub writing-repeated : 1 ≤ partFactors (asPart (r .part))
+        writing-repeated = subst (λ P. 1 ≤ partFactors P) (sym is) (part-repeated past all i inside (w .counted) (countable (asSheet s) good))
 
-        pub turn-more : {newer : List ℕ} {last : ℕ} {u : Totals} → Wrote new newer after (g (asPart (r .part))) last → With (asPart (r .part)) t u
+        pub writing-more : {newer : List ℕ} {last : ℕ} {u : Totals} → Wrote new newer after (g (asPart (r .part))) last → With (asPart (r .part)) t u
             → WritingSheet newer last (i + 1) u (r .rest) (r .degree)
-        turn-more {newer} {last} {u} v a = record {
+        writing-more {newer} {last} {u} v a = record {
           written = written-more turns (w .written) inside (subst (λ P. Wrote new newer after (g P) last) is v);
           counted = counted-more past all i inside (w .counted) (subst (λ P. With P t u) is a);
           left = left-next F l (w .left l) c;

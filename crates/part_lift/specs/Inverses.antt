@@ -3,7 +3,7 @@
 use mathlib.Core.Path.{_≡_, refl}
 use mathlib.Core.Bool.{true}
 use mathlib.Core.List.{List}
-use Prim.Native.Nat.{ℕ, _<_}
+use Prim.Native.Nat.{ℕ, _<_, _+_}
 use native.Mathlib.Omega.{arith}
 use Rattle.specification.specs.Limits.{taken}
 use Rattle.algebra.specs.Ring.{CommRing}
@@ -21,8 +21,7 @@ use Rattle.modp_euclid.specs.CommonDivisors.{GcdOf, CofactorOf}
 pub record CoprimePair (p : ℕ) (a : List ℕ) (i : ℕ) (b : List ℕ) (j : ℕ) : Type 0 where
   pub prime : taken p ≡ true
   pub positive : 0 < j
-  pub fitsFirst : i < 33
-  pub fitsSecond : j < 33
+  pub fits : i + j < 33
   pub first : Reduced p 33 a
   pub monicFirst : Monic i (poly p a)
   pub second : Reduced p 33 b

@@ -1,4 +1,6 @@
 pub mod Inverses
-pub mod Cuttable
+pub mod Quotients
 pub mod Correction
+pub mod Cuttable
+pub mod FirstDivision
 pub mod CutOff
