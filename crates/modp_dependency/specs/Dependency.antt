@@ -9,127 +9,133 @@ use native.Mathlib.Nat.{le-refl}
 use native.Mathlib.Numerals.{add-one}
 use native.Mathlib.Omega.{arith}
 use lib.Dec.{ltb}
-use lib.ListN.{length, getD, replicate, length-replicate}
+use lib.ListN.{length, getD, length-replicate}
 use borrow.Author.Tests.{ltb-true, ltb-false}
 use Rattle.algebra.specs.PolynomialRing.{𝟎}
 use Rattle.algebra.specs.Degree.{Below, below-zero}
 use Rattle.algebra.specs.Fields.{Prime, prime-pos}
 use Rattle.algebra.specs.CoefficientLists.{ℤ[x]/, poly, Reduced}
+use Rattle.arrays.specs.Represents.{Represents}
 use Rattle.arrays.specs.Sizes.{Size, below-size, size-small}
 use Rattle.arrays.specs.MonomialArray.{IsMonomial, monomial-represents}
 use Rattle.frobenius.specs.LinearMaps.{apply}
 use Rattle.frobenius.specs.RowReduction.{Between, Stage, reducing-none, reducing-down}
 use Rattle.frobenius.specs.LeastDependency.{LeastDependency, stage-found}
-use Rattle.modp_dependency.specs.declared.Image.{Image}
-use Rattle.modp_dependency.specs.declared.Row.{Row}
 use Rattle.modp_dependency.specs.declared.Found.{Found}
-use Rattle.modp_dependency.specs.StoredRows.{past, free, imageAt, preimageAt, ReducedRows, slot-free, stage-free, free-reduced}
+use Rattle.modp_dependency.specs.StoredRows.{polyAt, ReducedRows, free, noRows, slot-free, stage-free, free-reduced}
 use Rattle.modp_dependency.specs.Reduction.{ReducedTo}
 use Rattle.modp_dependency.specs.Storing.{Stored, reduced-stored, stage-stored}
 
--- the coefficients of the image of x^k
-abbrev pub coefsOf : List Image → ℕ → List ℕ
-coefsOf images k = (getD images k (record { coefs = [] })) .coefs
-
--- the map's images of the x^k
-abbrev pub imageOf : (p : ℕ) → List Image → ℕ → ℤ[x]/ p
-imageOf p images k = poly p (coefsOf images k)
-
 -- images of the x^k below x^count, in polynomials of degree below d
-pub record Images (p count d : ℕ) (images : List Image) : Type 0 where
-  pub reduced : (k : ℕ) → k < count → Reduced p 33 (coefsOf images k)
-  pub small : (k : ℕ) → k < count → Below d (imageOf p images k)
+pub record Images (p count d : ℕ) (images : List (List ℕ)) : Type 0 where
+  pub long : count ≤ length images
+  pub reduced : (k : ℕ) → k < count → Reduced p 33 (getD images k [])
+  pub small : (k : ℕ) → k < count → Below d (polyAt p images k)
 
 -- a dependency found
-pub record Least (p : ℕ) (images : List Image) (first count : ℕ) (r : Found) : Type 0 where
+pub record Least (p : ℕ) (images : List (List ℕ)) (first count : ℕ) (r : Found) : Type 0 where
   pub reduced : Reduced p 33 (r .v)
   pub above : first ≤ r .degree
   pub within : r .degree < count
-  pub least : LeastDependency (imageOf p images) count first (r .degree) (poly p (r .v))
+  pub least : LeastDependency (polyAt p images) count first (r .degree) (poly p (r .v))
 
 -- the map is injective on the polynomials with terms of degree first to count − 1 where none is found
-pub record DependencyFound (p : ℕ) (images : List Image) (first count : ℕ) (r : Found) : Type 0 where
+pub record DependencyFound (p : ℕ) (images : List (List ℕ)) (first count : ℕ) (r : Found) : Type 0 where
   pub found : r .found ≡ true → Least p images first count r
-  pub none : r .found ≡ false → (v : ℤ[x]/ p) → Between first count v → apply (imageOf p images) count v ≡ 𝟎 → v ≡ 𝟎
+  pub none : r .found ≡ false → (v : ℤ[x]/ p) → Between first count v → apply (polyAt p images) count v ≡ 𝟎 → v ≡ 𝟎
 
-pub record Searching (p : ℕ) (images : List Image) (first count d i : ℕ) (rows : List Row) : Type 0 where
+pub record Searching (p : ℕ) (images : List (List ℕ)) (first count d i : ℕ) (rows preimages : List (List ℕ)) : Type 0 where
   pub above : first ≤ i
   pub within : i ≤ count
-  pub slots : length rows ≡ 33
-  pub reduced : ReducedRows p rows
-  pub stage : Stage (imageOf p images) count d first (imageAt p rows) (preimageAt p rows) i
+  pub slots : (length rows ≡ 33) × (length preimages ≡ 33)
+  pub reduced : ReducedRows p rows × ReducedRows p preimages
+  pub stage : Stage (polyAt p images) count d first (polyAt p rows) (polyAt p preimages) i
 
 -- the image of x^i is in hand, reduced to k terms, unless it is fresh
-pub record InHand (p : ℕ) (images : List Image) (first count d i : ℕ) (rows : List Row) (image preimage : List ℕ) (k : ℕ) (fresh : Bool) : Type 0 where
+pub record InHand (p : ℕ) (images : List (List ℕ)) (first count d i : ℕ) (rows : List (List ℕ)) (image preimage : List ℕ) (k : ℕ) (fresh : Bool) : Type 0 where
   pub limit : k ≤ 33
-  pub reduced : fresh ≡ false → ReducedTo p (imageOf p images) first count d i rows k (record { image = image; preimage = preimage })
+  pub reduced : fresh ≡ false → ReducedTo p (polyAt p images) first count d i rows k image preimage
 
-module _ {p : ℕ} {images : List Image} {first count d i : ℕ} {rows : List Row} {image preimage : List ℕ} {k : ℕ} where
+module _ {p : ℕ} {images : List (List ℕ)} {first count d i : ℕ} {rows : List (List ℕ)} {image preimage : List ℕ} {k : ℕ} where
   pub none-in-hand : k ≤ 33 → InHand p images first count d i rows image preimage k true
   none-in-hand l = record { limit = l; reduced = λ q. absurd (true≢false q) }
 
-  pub in-hand : {fresh : Bool} → ReducedTo p (imageOf p images) first count d i rows k (record { image = image; preimage = preimage })
+  pub in-hand : {fresh : Bool} → ReducedTo p (polyAt p images) first count d i rows k image preimage
       → InHand p images first count d i rows image preimage k fresh
   in-hand R = record { limit = R .size .limit; reduced = λ q. R }
 
-pub searching-none : {p : ℕ} {images : List Image} {first count d : ℕ} {rows : List Row} → Prime p → first ≤ count → rows ≡ replicate 33 free
-    → Searching p images first count d first rows
-searching-none {p} {first = first} P l e = rw e (record {
+pub searching-none : {p : ℕ} {images : List (List ℕ)} {first count d : ℕ} → Prime p → first ≤ count → Searching p images first count d first noRows noRows
+searching-none {p} {first = first} P l = record {
   above = le-refl first;
   within = l;
-  slots = length-replicate {A = Row} 33 free;
-  reduced = free-reduced (prime-pos P);
+  slots = (long, long);
+  reduced = (free-reduced (prime-pos P), free-reduced (prime-pos P));
   stage = stage-free p;
-})
+}
+  where
+    long : length noRows ≡ 33
+    long = length-replicate {A = List ℕ} 33 free
 
 -- nothing is taken off the image of x^i yet
-pub reduced-none : {p : ℕ} {images : List Image} {first count d i : ℕ} {rows : List Row} {x : List ℕ} {k : ℕ} → Prime p → Images p count d images → i < count
-    → Searching p images first count d i rows → IsMonomial i x → Size (coefsOf images i) k
-    → ReducedTo p (imageOf p images) first count d i rows k (record { image = coefsOf images i; preimage = x })
+pub reduced-none : {p : ℕ} {images : List (List ℕ)} {first count d i : ℕ} {rows preimages : List (List ℕ)} {x : List ℕ} {k : ℕ} → Prime p
+    → Images p count d images → i < count → Searching p images first count d i rows preimages → IsMonomial i x → Size (getD images i []) k
+    → ReducedTo p (polyAt p images) first count d i rows k (getD images i []) x
 reduced-none {p} {images} {first} {count} {d} {i} {k = k} P I l S X z = record {
   reach = reach;
   image = I .reduced i l;
   size = z;
   preimage = monomial-represents X (P .large) .reduced;
-  reducing = reducing-down (imageOf p images) count d first reach (below-size p z)
-      (rw (monomial-represents X (P .large) .is) (reducing-none (imageOf p images) count d first (S .above) l));
+  reducing = reducing-down (polyAt p images) count d first reach (below-size p z)
+      (rw (monomial-represents X (P .large) .is) (reducing-none (polyAt p images) count d first (S .above) l));
 }
   where
     reach : k ≤ d
     reach = size-small (I .reduced i l) (I .small i l) z
 
--- the image of x^i is reduced to v, with k terms
-module _ {p : ℕ} (P : Prime p) {images : List Image} {first count d i : ℕ} {rows : List Row} {k : ℕ} {v : Row} (l : i < count)
-    (S : Searching p images first count d i rows) (R : ReducedTo p (imageOf p images) first count d i rows k v) where
-  pub searching-found : k ≡ 0 → DependencyFound p images first count (record { found = ltb i count; degree = i; v = v .preimage })
+-- image and preimage of a free slot are 0, the latter since the map is injective so far
+pub free-slot : {p : ℕ} → Prime p → {images : List (List ℕ)} {first count d i : ℕ} {rows preimages : List (List ℕ)} (k : ℕ)
+    → Searching p images first count d i rows preimages → k < 33 → getD (getD rows k []) k 0 ≡ 0
+    → Represents p (getD rows k []) 𝟎 × Represents p (getD preimages k []) 𝟎
+free-slot {p} P {rows = rows} {preimages} k S l e = (
+  record { reduced = S .reduced .0 k l; is = none },
+  record { reduced = S .reduced .1 k l; is = S .stage .injective (polyAt p preimages k) (S .stage .preimage k) (S .stage .image k ∙ none) },
+)
+  where
+    none : polyAt p rows k ≡ 𝟎
+    none = slot-free rows k (S .stage .slots k) (P .large) e
+
+-- the image of x^i is reduced to u, with k terms, and x^i to w
+module _ {p : ℕ} (P : Prime p) {images : List (List ℕ)} {first count d i : ℕ} {rows preimages : List (List ℕ)} {k : ℕ} {u w : List ℕ} (l : i < count)
+    (S : Searching p images first count d i rows preimages) (R : ReducedTo p (polyAt p images) first count d i rows k u w) where
+  pub searching-found : k ≡ 0 → DependencyFound p images first count (record { found = ltb i count; degree = i; v = w })
   searching-found e = record {
     found = λ q. record {
       reduced = R .preimage;
       above = S .above;
       within = l;
-      least = stage-found (imageOf p images) count d first (S .stage) (rw e at (R .reducing)) (below-zero (rw e at (below-size p (R .size))));
+      least = stage-found (polyAt p images) count d first (S .stage) (rw e at (R .reducing)) (below-zero (rw e at (below-size p (R .size))));
     };
     none = λ q. absurd (omega (arith, ltb-false i count q));
   }
 
   -- its slot is free
-  pub searching-more : {r : List Row} → 0 < k → getD ((getD rows (k - 1) past) .image) (k - 1) 0 ≡ 0 → Stored p rows v (k - 1) r
-      → Searching p images first count d (i + 1) r
+  pub searching-more : {rows′ preimages′ : List (List ℕ)} → 0 < k → getD (getD rows (k - 1) []) (k - 1) 0 ≡ 0
+      → Stored p rows preimages u w (k - 1) rows′ preimages′ → Searching p images first count d (i + 1) rows′ preimages′
   searching-more pos e h = record {
     above = omega (arith, S .above);
     within = omega arith;
-    slots = h .len ∙ S .slots;
-    reduced = reduced-stored P (S .reduced) h;
+    slots = (h .slots .0 ∙ S .slots .0, h .slots .1 ∙ S .slots .1);
+    reduced = reduced-stored h (S .reduced .0) (S .reduced .1);
     stage = rw add-one
-        (stage-stored P (S .above) l (omega (arith, R .reach)) (omega arith) (slot-free rows (k - 1) (S .stage .slots (k - 1)) (P .large) e)
-        (rw next (below-size p (R .size))) (S .stage) (R .reducing) h);
+        (stage-stored h P (S .above) l (omega (arith, R .reach)) (omega arith) (slot-free rows (k - 1) (S .stage .slots (k - 1)) (P .large) e)
+        (rw next (below-size p (R .size))) (S .stage) (R .reducing));
   }
     where
       next : suc (k - 1) ≡ k
       next = omega arith
 
-pub searching-done : {p : ℕ} {images : List Image} {first count d i : ℕ} {rows : List Row} {v : List ℕ} → count ≤ i → Searching p images first count d i rows
-    → DependencyFound p images first count (record { found = ltb i count; degree = i; v = v })
+pub searching-done : {p : ℕ} {images : List (List ℕ)} {first count d i : ℕ} {rows preimages : List (List ℕ)} {v : List ℕ} → count ≤ i
+    → Searching p images first count d i rows preimages → DependencyFound p images first count (record { found = ltb i count; degree = i; v = v })
 searching-done {count = count} {i = i} l S = record { found = λ q. absurd (omega (arith, ltb-true i count q)); none = λ q. rw e at (S .stage .injective) }
   where
     e : i ≡ count

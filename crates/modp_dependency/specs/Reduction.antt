@@ -1,8 +1,8 @@
 -- The reduction of the image of x^i by the rows: `TakenOff`, its leading term is taken off by the row in its slot, and as much off the preimage;
--- `ReducedTo p t o m n i rows k r`, r is what the rows have left of the image under t and of x^i so far, with an image of k terms; m images, n slots.
+-- `ReducedTo p t o m n i rows k u w`, u and w are what the rows have left of the image under t and of x^i so far, where u has k terms; m images, n slots.
 -- Proves that what the code takes off is such a step, and that the reduction goes on with it. Assumes nothing.
 use mathlib.Core.Path.{_≡_, sym, _∙_, ap}
-use mathlib.Core.List.{List}
+use mathlib.Core.List.{List, []}
 use Prim.Native.Nat.{ℕ, suc, _<_, _≤_, _-_}
 use native.Mathlib.Omega.{arith}
 use lib.ListN.{getD}
@@ -20,8 +20,7 @@ use Rattle.frobenius.specs.RowReduction.{Stage, Reducing, reducing-more, reduci
 use Rattle.modular.specs.InPlace.{Added}
 use Rattle.modular.proofs.AddMultiple.{multiple-added-to}
 use Rattle.modular.specs.Multiples.{multiple-taken-off}
-use Rattle.modp_dependency.specs.declared.Row.{Row}
-use Rattle.modp_dependency.specs.StoredRows.{past, imageAt, preimageAt}
+use Rattle.modp_dependency.specs.StoredRows.{polyAt}
 
 -- by the row (a, b) an image u of k terms has become u′, which has r terms, and its preimage w has become w′
 pub record TakenOff (p k : ℕ) (u w a b u′ w′ : List ℕ) (r : ℕ) : Type 0 where
@@ -62,20 +61,18 @@ module _ {p k : ℕ} {u a u′ : List ℕ} (pos : 0 < k) (hu : Reduced p 33 u) (
     fewer = omega (arith, size-small (multiple-off k hu hu h .reduced) small s);
   }
 
-pub record ReducedTo (p : ℕ) (t : ℕ → ℤ[x]/ p) (o m n i : ℕ) (rows : List Row) (k : ℕ) (r : Row) : Type 0 where
+pub record ReducedTo (p : ℕ) (t : ℕ → ℤ[x]/ p) (o m n i : ℕ) (rows : List (List ℕ)) (k : ℕ) (u w : List ℕ) : Type 0 where
   pub reach : k ≤ n
-  pub image : Reduced p 33 (r .image)
-  pub size : Size (r .image) k
-  pub preimage : Reduced p 33 (r .preimage)
-  pub reducing : Reducing t m n o (imageAt p rows) i k (poly p (r .image)) (poly p (r .preimage))
+  pub image : Reduced p 33 u
+  pub size : Size u k
+  pub preimage : Reduced p 33 w
+  pub reducing : Reducing t m n o (polyAt p rows) i k (poly p u) (poly p w)
 
 -- the leading term is taken off by the row in its slot
-pub reduced-more : {p : ℕ} {t : ℕ → ℤ[x]/ p} {o m n i : ℕ} {rows : List Row} {k l : ℕ} {r : Row} {u w : List ℕ} → 0 < k
-    → Stage t m n o (imageAt p rows) (preimageAt p rows) i
-    → ReducedTo p t o m n i rows k r
-    → TakenOff p k (r .image) (r .preimage) ((getD rows (k - 1) past) .image) ((getD rows (k - 1) past) .preimage) u w l
-    → ReducedTo p t o m n i rows l (record { image = u; preimage = w })
-reduced-more {p} {t} {o} {m} {n} {k = k} {l} pos S h off = record {
+pub reduced-more : {p : ℕ} {t : ℕ → ℤ[x]/ p} {o m n i : ℕ} {rows : List (List ℕ)} (preimages : List (List ℕ)) {k l : ℕ} {u w u′ w′ : List ℕ} → 0 < k
+    → Stage t m n o (polyAt p rows) (polyAt p preimages) i → ReducedTo p t o m n i rows k u w
+    → TakenOff p k u w (getD rows (k - 1) []) (getD preimages (k - 1) []) u′ w′ l → ReducedTo p t o m n i rows l u′ w′
+reduced-more {p} {t} {o} {m} {n} preimages {k} {l} pos S h off = record {
   reach = omega (arith, h .reach, off .fewer);
   image = off .image .reduced;
   size = off .size;

@@ -18,7 +18,6 @@ use Rattle.frobenius.specs.SplittingElements.{SplittingElement}
 use Rattle.frobenius.specs.Unsplit.{Unsplit}
 use Rattle.frobenius.specs.PowerDependencies.{dependency-splits, injective-unsplit}
 use Rattle.quotients.specs.Remainder.{Remainder}
-use Rattle.modp_dependency.specs.declared.Image.{Image}
 use Rattle.modp_dependency.specs.declared.Found.{Found}
 use Rattle.modp_dependency.specs.Dependency.{DependencyFound}
 use Rattle.modp_dependency.specs.RemainderImages.{images-remainders}
@@ -30,7 +29,7 @@ pub record ElementFound (p d : ℕ) (q : List ℕ) (r : Found) : Type 0 where
   pub splits : r .found ≡ true → SplittingElement p d (poly p q) (poly p (r .v))
   pub unsplit : r .found ≡ false → Unsplit p d (poly p q)
 
-pub element-found : {p : ℕ} → Prime p → {d : ℕ} {q : List ℕ} {images : List Image} {r : Found} → Monic d (poly p q)
+pub element-found : {p : ℕ} → Prime p → {d : ℕ} {q : List ℕ} {images : List (List ℕ)} {r : Found} → Monic d (poly p q)
     → PowerImages p q d d images → DependencyFound p images 1 d r → ElementFound p d q r
 element-found P m h a = record {
   reduced = λ e. a .found e .reduced;

@@ -1,7 +1,7 @@
 -- The loop of `images`: `PowerImages p q d i images`, the first i images are the remainders of x^(p·k) − x^k by q.
 -- Proves how the powers x^(p·k) are made, and that the loop begins so and goes on so. Assumes nothing.
 use mathlib.Core.Path.{_≡_, refl, sym, _∙_, ap, ap₂}
-use mathlib.Core.List.{List, _∷_}
+use mathlib.Core.List.{List}
 use Prim.Native.Nat.{ℕ, _<_, _-_, _+_, _%_}
 use native.Mathlib.Nat.{mod-lt}
 use lib.ListN.{getD, set, replicate}
@@ -18,10 +18,9 @@ use Rattle.arrays.specs.Terms.{term-added}
 use Rattle.frobenius.specs.FrobeniusPowers.{_^ᴿ_, differenceImages}
 use Rattle.modular.specs.Multiples.{minus-one-multiple}
 use Rattle.quotients.specs.Remainder.{Remainder, remainder-as}
-use Rattle.modp_dependency.specs.declared.Image.{Image}
 use Rattle.modp_dependency.specs.RemainderImages.{RemainderImages, images-first, images-stored}
 
-abbrev pub PowerImages : (p : ℕ) → List ℕ → (d i : ℕ) → List Image → Type 0
+abbrev pub PowerImages : (p : ℕ) → List ℕ → (d i : ℕ) → List (List ℕ) → Type 0
 PowerImages p q d i images = RemainderImages p q d (differenceImages p) i images
 
 -- where the coefficient of x^i is one less, modulo p, there is a − x^i: p − 1 stands for minus one
@@ -53,7 +52,7 @@ module _ {p : ℕ} {q : List ℕ} {d : ℕ} where
   first-power h = rw (pow-one (𝓩[x]/ p) (x^ p)) h
 
   -- the image of 1 is 0
-  pub images-none : 0 < p → PowerImages p q d 1 (replicate 33 (record { coefs = replicate 33 0 }))
+  pub images-none : 0 < p → PowerImages p q d 1 (replicate 33 (replicate 33 0))
   images-none pos = images-first (record {
     reduced = zeros p pos .reduced;
     small = rw (zeros p pos .is) (below-𝟎 d);
@@ -70,6 +69,6 @@ module _ {p : ℕ} {q : List ℕ} {d : ℕ} where
     congruent = rw (hm .is) (congruent-add (𝓩[x]/ p) (hw .congruent) (congruent-equal (𝓩[x]/ p) refl));
   }
 
-  pub images-more : {i : ℕ} {images : List Image} {w : List ℕ} {image : Image} → i < d → i < 33 → PowerImages p q d i images
-      → Remainder p q d w (x^ p ^ᴿ i) → Represents p (image .coefs) (poly p w +ᴿ -ᴿ x^ i) → PowerImages p q d (i + 1) (set images i image)
+  pub images-more : {i : ℕ} {images : List (List ℕ)} {w image : List ℕ} → i < d → i < 33 → PowerImages p q d i images
+      → Remainder p q d w (x^ p ^ᴿ i) → Represents p image (poly p w +ᴿ -ᴿ x^ i) → PowerImages p q d (i + 1) (set images i image)
   images-more {i} l fits h hw hm = images-stored fits h (image-more i l hw hm)

@@ -16,7 +16,6 @@ use arrays::Coefs;
 use arrays::monomial;
 use arrays::size;
 use modp_dependency::Found;
-use modp_dependency::Image;
 use modp_dependency::least_dependency;
 use quotients::power;
 use quotients::product_modulo;
@@ -60,22 +59,22 @@ fn less_one(c: u16, p: u16) -> u16
 }
 
 // a - x^i: one coefficient changes.
-fn less_power(a: Coefs, i: usize, p: u16) -> Image
+fn less_power(a: Coefs, i: usize, p: u16) -> Coefs
     requires { ⌜ (1 < p) × (i < 33) × Reduced p 33 a ⌝ }
-    ensures { λ r. ⌜ Represents p (r .coefs) (poly p a +ᴿ -ᴿ x^ i) ⌝ }
+    ensures { λ r. ⌜ Represents p r (poly p a +ᴿ -ᴿ x^ i) ⌝ }
 {
     let mut m = a;
     m[i] = less_one(a[i], p);
-    Image { coefs: m }
+    m
 }
 
 // x^(p·i) - x^i modulo q for i below d: the images of the x^i under the map that takes v to v^p - v. That of 1 is 0.
-fn images(q: Coefs, d: usize, p: u16) -> [Image; 33]
+fn images(q: Coefs, d: usize, p: u16) -> [Coefs; 33]
     requires { ⌜ (1 < p) × (0 < d) × (d < 33) × Monic d (poly p q) × Reduced p 33 q ⌝ }
     ensures { λ r. ⌜ PowerImages p q d d r ⌝ }
 {
-    let none = Image { coefs: [0u16; 33] };
-    let mut r = [none; 33];
+    let zero = [0u16; 33];
+    let mut r = [zero; 33];
     if d < 2 {
         return r;
     }
@@ -97,7 +96,7 @@ fn splitting_element(q: Coefs, d: usize, p: u16) -> Found
     ensures { λ r. ⌜ ElementFound p d q r ⌝ }
 {
     let t = images(q, d, p);
-    least_dependency(t, 1, d, d, p)
+    least_dependency(&t, 1, d, d, p)
 }
 
 // A splitting element of q: the one at hand, if it is known, or else one that is looked for. The degree that is given with it says nothing.

@@ -18,7 +18,6 @@ use Rattle.algebra.specs.ListShapes.{getD-zeros}
 use Rattle.arrays.specs.SameEntries.{same-number}
 use Rattle.frobenius.specs.LinearMaps.{kernel-divides}
 use Rattle.frobenius.specs.ValuesOfElements.{VanishesAt, value-coprime}
-use Rattle.modp_dependency.specs.declared.Image.{Image}
 use Rattle.modp_dependency.specs.declared.Found.{Found}
 use Rattle.modp_dependency.specs.Dependency.{DependencyFound}
 use Rattle.modp_dependency.specs.RemainderImages.{RemainderImages, images-remainders}
@@ -34,7 +33,7 @@ abbrev pub Candidates : (p : ℕ) → (q v tries : List ℕ) → Type 0
 Candidates p q v tries = (c : ℕ) → c < p → getD tries c 0 ≢ 0 → Coprime (𝓩[x]/ p) (poly p q) (poly p v +ᴿ -ᴿ constant (residue p c))
 
 -- a dependency of the powers
-pub vanishing-found : {p d : ℕ} {q v : List ℕ} {images : List Image} {count : ℕ} {r : Found} → Monic d (poly p q) → count ≤ 33
+pub vanishing-found : {p d : ℕ} {q v : List ℕ} {images : List (List ℕ)} {count : ℕ} {r : Found} → Monic d (poly p q) → count ≤ 33
     → RemainderImages p q d (pow (𝓩[x]/ p) (poly p v)) count images → DependencyFound p images 0 count r → r .found ≡ true → Vanishing p q v r
 vanishing-found {count = count} {r} m l h a e = record {
   reduced = a .found e .reduced;

@@ -12,18 +12,17 @@ use Rattle.algebra.specs.Congruence.{congruent-equal}
 use Rattle.arrays.specs.MonomialArray.{IsMonomial, monomial-represents, monomial-monic}
 use Rattle.quotients.specs.Remainder.{Remainder, remainder-as}
 use Rattle.quotients.proofs.PowerTurns.{power-more}
-use Rattle.modp_dependency.specs.declared.Image.{Image}
 use Rattle.modp_dependency.specs.RemainderImages.{RemainderImages, images-first, images-stored, images-done}
 
 -- power is the last one stored
-pub record PowersStored (p : ℕ) (q : List ℕ) (d : ℕ) (v : ℤ[x]/ p) (i : ℕ) (images : List Image) (power : List ℕ) : Type 0 where
+pub record PowersStored (p : ℕ) (q : List ℕ) (d : ℕ) (v : ℤ[x]/ p) (i : ℕ) (images : List (List ℕ)) (power : List ℕ) : Type 0 where
   pub stored : RemainderImages p q d (pow (𝓩[x]/ p) v) i images
   pub last : ℕ
   pub next : last + 1 ≡ i
   pub inHand : Remainder p q d power (pow (𝓩[x]/ p) v last)
 
 module _ {p : ℕ} {q : List ℕ} {d : ℕ} where
-  pub powers-none : {v : ℤ[x]/ p} {one : List ℕ} → 1 < p → 1 ≤ d → IsMonomial 0 one → PowersStored p q d v 1 (replicate 33 (record { coefs = one })) one
+  pub powers-none : {v : ℤ[x]/ p} {one : List ℕ} → 1 < p → 1 ≤ d → IsMonomial 0 one → PowersStored p q d v 1 (replicate 33 one) one
   powers-none {v} {one} large l h = record { stored = images-first first; last = 0; next = refl; inHand = first }
     where
       first : Remainder p q d one (pow (𝓩[x]/ p) v 0)
@@ -33,8 +32,8 @@ module _ {p : ℕ} {q : List ℕ} {d : ℕ} where
         congruent = congruent-equal (𝓩[x]/ p) (monomial-represents h large .is ∙ pow-zero (𝓩[x]/ p) x ∙ sym (pow-zero (𝓩[x]/ p) v));
       }
 
-  pub powers-more : (v : List ℕ) {i : ℕ} {images : List Image} {power next : List ℕ} → i < 33 → PowersStored p q d (poly p v) i images power
-      → Remainder p q d next (poly p power · poly p v) → PowersStored p q d (poly p v) (i + 1) (set images i (record { coefs = next })) next
+  pub powers-more : (v : List ℕ) {i : ℕ} {images : List (List ℕ)} {power next : List ℕ} → i < 33 → PowersStored p q d (poly p v) i images power
+      → Remainder p q d next (poly p power · poly p v) → PowersStored p q d (poly p v) (i + 1) (set images i next) next
   powers-more v {i} {images} {power} {next} l h hn = record { stored = images-stored l (h .stored) more; last = i; next = refl; inHand = more }
     where
       more : Remainder p q d next (pow (𝓩[x]/ p) (poly p v) i)
@@ -43,6 +42,6 @@ module _ {p : ℕ} {q : List ℕ} {d : ℕ} where
           (power-more p q (poly p v) (h .last) (h .inHand)
           (remainder-as p hn (congruent-equal (𝓩[x]/ p) ((𝓩[x]/ p) .*-comm (poly p power) (poly p v)))))
 
-  pub powers-done : {v : ℤ[x]/ p} {i count : ℕ} {images : List Image} {power : List ℕ} → i ≤ count → count ≤ i → PowersStored p q d v i images power
+  pub powers-done : {v : ℤ[x]/ p} {i count : ℕ} {images : List (List ℕ)} {power : List ℕ} → i ≤ count → count ≤ i → PowersStored p q d v i images power
       → RemainderImages p q d (pow (𝓩[x]/ p) v) count images
   powers-done l u h = images-done l u (h .stored)

@@ -16,7 +16,6 @@ use arrays::Coefs;
 use arrays::monomial;
 use division::divide;
 use modp_dependency::Found;
-use modp_dependency::Image;
 use modp_dependency::least_dependency;
 use modp_euclid::common_divisor;
 use modp_roots::values;
@@ -43,17 +42,16 @@ fn less_constant(v: Coefs, c: u16, p: u16) -> Coefs
 }
 
 // The powers 1, v, v^2, .. of v modulo Q, as many as `count` says.
-fn powers(q: Coefs, d: usize, v: Coefs, count: usize, p: u16) -> [Image; 33]
+fn powers(q: Coefs, d: usize, v: Coefs, count: usize, p: u16) -> [Coefs; 33]
     requires { ⌜ Halvable p q d v × (0 < count) × (count ≤ 33) ⌝ }
     ensures { λ r. ⌜ RemainderImages p q d (pow (𝓩[x]/ p) (poly p v)) count r ⌝ }
 {
     let mut power = monomial(0);
-    let one = Image { coefs: power };
-    let mut r = [one; 33];
+    let mut r = [power; 33];
     let mut i: usize = 1;
     while i < count {
         let next = product_modulo(power, v, q, d, p);
-        r[i] = Image { coefs: next };
+        r[i] = next;
         power = next;
         i += 1;
     }
@@ -66,7 +64,7 @@ fn vanishing(q: Coefs, d: usize, v: Coefs, count: usize, p: u16) -> Found
     ensures { λ r. ⌜ (r .found ≡ true → Vanishing p q v r) ⌝ }
 {
     let t = powers(q, d, v, count, p);
-    least_dependency(t, 0, count, d, p)
+    least_dependency(&t, 0, count, d, p)
 }
 
 // The values at all residues of an m with m(v) = 0 modulo Q: where m(c) is not 0, v - c has no factor in common with Q, for it divides m(v) - m(c). Zeros

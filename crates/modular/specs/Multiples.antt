@@ -1,19 +1,18 @@
 -- Multiples of arrays as `add_multiple`, and `add_in_place` on a whole array, make them, a + c·x^0·b: n − c stands for −c.
--- Proves what is then taken off, that the multiples by 1 and by n − 1, and that of the array of 0, represent sum, difference and multiple, and that those
--- by a multiple of n change nothing.
+-- Proves what is then taken off, that the multiples by 1 and by n − 1, and any added to 0, represent sum, difference and multiple, and that those by a
+-- multiple of n change nothing.
 -- Assumes nothing.
 use mathlib.Core.Path.{_≡_, sym, _∙_, ap, ap₂}
 use mathlib.Core.List.{List}
 use Prim.Native.Nat.{ℕ, _≤_, _<_, _-_, _%_}
 use native.Mathlib.Omega.{arith}
-use lib.ListN.{replicate}
 use Rattle.algebra.specs.Ring.{neg-mul, one-mul, zero-add}
 use Rattle.algebra.specs.Identities.{con, _⊕_, _⊗_, _≈_, solve}
 use Rattle.algebra.specs.Residues.{residue, Residues, residue-zero, residue-mod}
 use Rattle.algebra.specs.PolynomialRing.{_+ᴿ_, _·_, -ᴿ_, 𝟎, constant, constant-zero}
 use Rattle.algebra.specs.CoefficientLists.{ℤ[x]/, poly, Reduced, constant-residue-one, 𝓩[x]/}
 use Rattle.algebra.specs.Monomials.{x^, shift-zero}
-use Rattle.arrays.specs.Represents.{Represents, zeros, constant-residue-neg}
+use Rattle.arrays.specs.Represents.{Represents, constant-residue-neg}
 
 module _ (n : ℕ) where
   pub one-multiple : (b : ℤ[x]/ n) → constant (residue n 1) · b ≡ b
@@ -55,10 +54,11 @@ nothing-represented {n} c {a} t h e = record {
     nothing =
         ap constant (sym (residue-mod n (omega (arith, h .low 0)) c) ∙ ap (residue n) e ∙ residue-zero n) ∙ constant-zero (Residues n)
 
-pub multiple-represented : (n c : ℕ) (a r : List ℕ) → 0 < n
-    → Represents n r (poly n (replicate 33 0) +ᴿ constant (residue n c) · (x^ 0 · poly n a)) → Represents n r (constant (residue n c) · poly n a)
-multiple-represented n c a r pos h = record {
+-- a multiple added to 0
+pub multiple-represented : {n : ℕ} (c : ℕ) {z : ℤ[x]/ n} (a : List ℕ) {r : List ℕ} → z ≡ 𝟎
+    → Represents n r (z +ᴿ constant (residue n c) · (x^ 0 · poly n a)) → Represents n r (constant (residue n c) · poly n a)
+multiple-represented {n} c a zero h = record {
   reduced = h .reduced;
-  is = h .is ∙ ap₂ (λ z e. z +ᴿ constant (residue n c) · e) (zeros n pos .is) (shift-zero (poly n a))
+  is = h .is ∙ ap₂ (λ b e. b +ᴿ constant (residue n c) · e) zero (shift-zero (poly n a))
       ∙ zero-add (𝓩[x]/ n) (constant (residue n c) · poly n a);
 }

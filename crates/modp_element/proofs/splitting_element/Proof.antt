@@ -11,7 +11,10 @@ splitting-element-spec =
     tie.close
     (tie.spec
     (λ c κs. search needs)  -- images-requires
-    (λ c κs. (c .before .pre .0, c .before .pre .1, search needs, search needs, images-given (c .images .ensures)))  -- least-dependency-requires
-    (λ c.
+    (λ c. search needs)  -- slice-aggregate-least-dependency
+    (λ c κs.
     let pre = c .before .before .pre in
-    element-found (pre .0) (pre .3) (c .before .images .ensures) (c .least-dependency .ensures)))  -- returns
+    (pre .0, pre .1, search needs, search needs, images-given (c .before .images .ensures) (search needs)))  -- least-dependency-requires
+    (λ c.
+    let pre = c .before .before .before .pre in
+    element-found (pre .0) (pre .3) (c .before .before .images .ensures) (c .least-dependency .ensures)))  -- returns

@@ -11,7 +11,10 @@ vanishing-spec =
     tie.close
     (tie.spec
     (λ c κs. search needs)  -- powers-requires
-    (λ c κs. (c .before .pre .0 .prime, search needs, c .before .pre .2, search needs, images-given (c .powers .ensures)))  -- least-dependency-requires
-    (λ c.
+    (λ c. search needs)  -- slice-aggregate-least-dependency
+    (λ c κs.
     let pre = c .before .before .pre in
-    vanishing-found (pre .0 .monic) (pre .2) (c .before .powers .ensures) (c .least-dependency .ensures)))  -- returns
+    (pre .0 .prime, search needs, pre .2, search needs, images-given (c .before .powers .ensures) (pre .2)))  -- least-dependency-requires
+    (λ c.
+    let pre = c .before .before .before .pre in
+    vanishing-found (pre .0 .monic) (pre .2) (c .before .before .powers .ensures) (c .least-dependency .ensures)))  -- returns

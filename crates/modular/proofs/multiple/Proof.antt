@@ -15,4 +15,4 @@ multiple-spec =
     (λ c κs.
     let pre = c .before .pre in
     (pre .0, (zeros _ (omega (arith, pre .2 .low 0))) .reduced, pre .2, pre .3, search needs))  -- add-multiple-requires
-    (λ c. multiple-represented _ _ _ _ (omega (arith, c .before .before .pre .2 .low 0)) (c .add-multiple .ensures)))  -- returns-2
+    (λ c. multiple-represented _ _ (zeros _ (omega (arith, c .before .before .pre .2 .low 0)) .is) (c .add-multiple .ensures)))  -- returns-2
