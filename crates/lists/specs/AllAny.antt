@@ -32,7 +32,7 @@ module _ {A : Type 0} (test : A → Bool) where
   any_member (a ∷ l) t =
       ⊎_elim (λ s. (a, here refl, s)) (λ s. let (b, i, u) = any_member l s in (b, there i, u)) (either (test a) (any_passes test l) t)
 
-  pub any_passes_lem : {l : List A} {a : A} → a ∈ l → T (test a) → T (any_passes test l)
+  pub any_passes_lem : {a : A} {l : List A} → a ∈ l → T (test a) → T (any_passes test l)
   unfolding any_passes
   any_passes_lem (here {x} {xs} e) t = or_left (test x) (any_passes test xs) (subst (λ b. T (test b)) e t)
   any_passes_lem (there {x} {xs} i) t = or_right (test x) (any_passes test xs) (any_passes_lem i t)
