@@ -5,7 +5,7 @@ use Rattle.std.proofs.Math.Path.{refl}
 use Rattle.std.proofs.Common.{sym, ◌∙◌, ap, ap₂, inl, inr, suc-add, suc-mul, zero-mul, add_comm, mul-one as mul-oneℕ, eq-or-lt_of_le, arith}
 use Rattle.std.proofs.Math.Logic.{∥∥₁_elim}
 use Prim.Native.Nat.{ℕ, zero, suc, ◌≤◌, ◌<◌, ◌+◌, ◌*◌}
-use Rattle.algebra.specs.Ring.{CommRing, add_zero, mul_zero, mul-one, neg_zero}
+use Rattle.algebra.specs.Ring.{CommRing, add_zero, mul_zero, mul_one, neg_zero}
 use Rattle.algebra.specs.Divisibility.{pow, pow_zero, pow_suc}
 use Rattle.algebra.specs.Series.{single, ends_⊠, top_⊠}
 use Rattle.algebra.specs.PolynomialRing.{
@@ -111,7 +111,7 @@ module _ {R : Type 0} {𝓡 : CommRing R} where
 
       top : q.coef (n + m) ≡ 𝓡.𝟘
       top =
-          sym (mul-one 𝓡 (q.coef (n + m))) ∙ ap (𝓡.mul (q.coef (n + m))) (sym mg.leading)
+          sym (mul_one 𝓡 (q.coef (n + m))) ∙ ap (𝓡.mul (q.coef (n + m))) (sym mg.leading)
           ∙ sym (coef_top up mg.below) ∙ s.high (n + m + d) (omega arith)
 
   -- a factor of a multiple of a monic polynomial of degree d is d degrees lower

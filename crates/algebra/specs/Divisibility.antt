@@ -4,7 +4,7 @@ use Rattle.std.specs.Prelude.{◌≡◌, List, [], ◌∷◌, ◌++◌, map, ℕ
 use Rattle.std.proofs.Math.Path.{refl}
 use Rattle.std.proofs.Common.{sym, ◌∙◌, ap, ap₂, suc-add, zero-add as zero-addℕ, zero-mul as zero-mulℕ, mul_comm as mul-commℕ, arith}
 use Rattle.std.proofs.lemmas.List.{map-append}
-use Rattle.algebra.specs.Ring.{CommRing, ring, linear2, mul_one, one_mul, mul_assoc, zero-mul}
+use Rattle.algebra.specs.Ring.{CommRing, ring, linear2, mul_one, one_mul, mul_assoc, zero_mul}
 use Rattle.algebra.specs.Identities.{con, ◌⊕◌, ◌⊖◌, ◌⊗◌, ⊝◌, ◌≈◌, solve}
 
 module _ {R : Type 0} (𝓡 : CommRing R) where
@@ -75,7 +75,7 @@ module _ {R : Type 0} (𝓡 : CommRing R) where
 
   pub pow_of_zero : (n : ℕ) → 0 < n → pow 𝟘 n ≡ 𝟘
   pow_of_zero zero l = absurd (omega arith)
-  pow_of_zero (suc n) l = pow_suc 𝟘 n ∙ zero-mul 𝓡 (pow 𝟘 n)
+  pow_of_zero (suc n) l = pow_suc 𝟘 n ∙ zero_mul 𝓡 (pow 𝟘 n)
 
   pub pow_of_one : (n : ℕ) → pow 𝟙 n ≡ 𝟙
   pow_of_one zero = pow_zero 𝟙
@@ -109,7 +109,7 @@ module _ {R : Type 0} (𝓡 : CommRing R) where
   one_divides a = (a, mul_one 𝓡 a)
 
   pub divides_zero : (a : R) → a ∣ 𝟘
-  divides_zero a = (𝟘, zero-mul 𝓡 a)
+  divides_zero a = (𝟘, zero_mul 𝓡 a)
 
   pub divides_add : {a b c : R} → a ∣ b → a ∣ c → a ∣ b +ᴿ c
   divides_add {a} {b} {c} (p, e) (q, e') = (

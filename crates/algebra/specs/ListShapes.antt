@@ -76,7 +76,7 @@ get_d_zeros k j = read_replicate 0 k j
 
 -- a function that keeps 0, on each entry
 pub get_d_map : (g : ℕ → ℕ) → g 0 ≡ 0 → (f : List ℕ) (k : ℕ) → get_or (map g f) k 0 ≡ g (get_or f k 0)
-get_d_map g e f k = ap (get_or (map g f) k) (sym e) ∙ ListN.get_d_map g f k 0
+get_d_map g e f k = ap (get_or (map g f) k) (sym e) ∙ ListN.get_or-map g f k 0
 
 pub get_d_reduce : (n : ℕ) (f : List ℕ) (k : ℕ) → get_or (reduce n f) k 0 ≡ get_or f k 0 % n
 unfolding reduce

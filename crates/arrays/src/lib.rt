@@ -1,5 +1,7 @@
 // Arrays of 33 coefficients, constant first: their type, the powers of x, how many terms there are, a bound of all entries, and whether two are equal.
 // What they hold as polynomials is in specs/. All is public for the crates above, and no entry point of the library.
+#![tactic(auto)]
+
 ghost use Rattle.std.specs.Prelude.{◌≡◌, ◌<◌, ◌≤◌, ltb, length};
 ghost use Rattle.specification.specs.Lists.{all_pass};
 ghost use Rattle.lists.specs.Decides.{Decides};

@@ -56,11 +56,15 @@ module _ {A : Type 0} where
   total_mono f g [] h = omega arith
   total_mono f g (a ∷ l) h = omega (arith, h a (here refl), total_mono f g l (all_tail h))
 
+  equal_at : (f g : A → ℕ) (b : A) (l : List A) → ((a : A) → a ∈ l → f a ≤ g a) → total g l ≤ total f l → b ∈ l → f b ≡ g b
+  unfolding total
+  equal_at f g b l h e (here {x} {xs} q) = rw q (omega (arith, e, h x (here refl), total_mono f g xs (all_tail h)))
+  equal_at f g b l h e (there {x} {xs} i) = equal_at f g b xs (all_tail h) (omega (arith, e, h x (here refl))) i
+
   -- equal sums of terms that are ordered: equal terms
   pub total_equal : (f g : A → ℕ) (l : List A) → ((a : A) → a ∈ l → f a ≤ g a) → total g l ≤ total f l → (a : A) → a ∈ l → f a ≡ g a
   unfolding total
-  total_equal f g l h e b (here {x} {xs} q) = rw q (omega (arith, e, h x (here refl), total_mono f g xs (all_tail h)))
-  total_equal f g l h e b (there {x} {xs} i) = total_equal f g xs (all_tail h) (omega (arith, e, h x (here refl))) b i
+  total_equal f g l h e b i = equal_at f g b l h e i
 
   pub member_le : (f : A → ℕ) {a : A} {l : List A} → a ∈ l → f a ≤ total f l
   unfolding total

@@ -9,23 +9,23 @@ use Rattle.lists.specs.SameLists.{entry_differs, entries_agree}
 use Rattle.arrays.proofs.equal.Statement.{statement}
 use Rattle.arrays.proofs.equal.Tie as tie
 
-abbrev invariant-loop : tie.invariant-loop
-invariant-loop a b j₀ j = (k : ℕ) → k < j → get_or a k 0 ≡ get_or b k 0
+abbrev invariant-loop-j : tie.invariant-loop-j
+invariant-loop-j a b j₀ j = (k : ℕ) → k < j → get_or a k 0 ≡ get_or b k 0
 
-abbrev decreases-loop : tie.decreases-loop
-decreases-loop a b j₀ j = 33 - j
+abbrev decreases-loop-j : tie.decreases-loop-j
+decreases-loop-j a b j₀ j = 33 - j
 
 pub equal_spec : {M : Type 1} → statement M
 equal_spec =
     tie.close
-    (tie.spec invariant-loop decreases-loop
-    (λ c. below_none _)  -- loop-holds
-    (λ c. search rules)  -- mul-if1
-    (λ c. search rules)  -- array-read-if1
-    (λ c. search rules)  -- mul-if1-2
-    (λ c. search rules)  -- array-read-if1-2
-    (λ c. entry_differs c.before.before.loop.j c.if1.true)  -- returns
-    (λ c. search rules)  -- add-j
-    (λ c. search rules)  -- loop-less
-    (λ c. below_more _ _ c.before.before.loop.invariant c.if1.false)  -- loop-again
-    (λ c. entries_agree (search rules) (λ k l. c.before.loop.invariant k (search rules))))  -- returns-2
+    (tie.spec invariant-loop-j decreases-loop-j
+    (λ c. below_none _)  -- loop-j-init
+    (λ c. search rules)  -- offset_bounds-a-j
+    (λ c. search rules)  -- bounds-a-j
+    (λ c. search rules)  -- offset_bounds-b-j
+    (λ c. search rules)  -- bounds-b-j
+    (λ c. entry_differs c.before.before.loop-j.j c.if-a-j.true)  -- returns-then-a-j
+    (λ c. search rules)  -- overflow_add-j
+    (λ c. search rules)  -- loop-j-smaller
+    (λ c. below_more _ _ c.before.before.loop-j.invariant c.if-a-j.false)  -- loop-j-preserved
+    (λ c. entries_agree (search rules) (λ k l. c.before.loop-j.invariant k (search rules))))  -- returns

@@ -9,6 +9,6 @@ pub monomial_spec : {M : Type 1} → statement M
 monomial_spec =
     tie.close
     (tie.spec
-    (λ c. search rules)  -- mul-r
-    (λ c. search rules)  -- array-write-r
+    (λ c. search rules)  -- offset_bounds-r-i
+    (λ c. search rules)  -- bounds-r-i
     (λ c. monomial_set c.args.i c.requires))  -- returns

@@ -9,6 +9,6 @@ pub size_spec : {M : Type 1} → statement M
 size_spec =
     tie.close
     (tie.spec
-    (λ c. search rules)  -- slice-aggregate-size-below
-    (λ c κs. (search rules, search rules, from_end 0 c.before.args.t1 33 (search rules)))  -- size-below-requires
+    (λ c. search rules)  -- slice_bounds-size_below-end
+    (λ c κs. (search rules, search rules, from_end 0 c.before.args.a 33 (search rules)))  -- size_below-requires
     (λ c. search rules))  -- returns

@@ -8,22 +8,22 @@ use Rattle.arrays.specs.Represents.{ZeroFrom}
 use Rattle.arrays.proofs.size_below.Statement.{statement}
 use Rattle.arrays.proofs.size_below.Tie as tie
 
-abbrev invariant-loop : tie.invariant-loop
-invariant-loop a top i₀ i = (i ≤ top) × ZeroFrom i a
+abbrev invariant-loop-i : tie.invariant-loop-i
+invariant-loop-i a top i₀ i = (i ≤ top) × ZeroFrom i a
 
-abbrev decreases-loop : tie.decreases-loop
-decreases-loop a top i₀ i = i
+abbrev decreases-loop-i : tie.decreases-loop-i
+decreases-loop-i a top i₀ i = i
 
 pub size_below_spec : {M : Type 1} → statement M
 size_below_spec =
     tie.close
-    (tie.spec invariant-loop decreases-loop
-    (λ c. (search rules, c.requires.2))  -- loop-holds
-    (λ c. search rules)  -- sub-if1
-    (λ c. search rules)  -- mul-if1
-    (λ c. search rules)  -- shared-slice-read-if1
-    (λ c. record { limit = search rules; above = c.before.before.before.loop.invariant.1; top = λ l. c.if1.true })  -- returns
-    (λ c. search rules)  -- sub-i
-    (λ c. search rules)  -- loop-less
-    (λ c. (search rules, from_more _ _ c.before.before.before.loop.invariant.1 c.if1.false))  -- loop-again
-    (λ c. record { limit = search rules; above = λ k l. c.before.loop.invariant.1 k (omega arith); top = λ l. absurd (omega arith) }))  -- returns-2
+    (tie.spec invariant-loop-i decreases-loop-i
+    (λ c. (search rules, c.requires.2))  -- loop-i-init
+    (λ c. search rules)  -- overflow_sub-i
+    (λ c. search rules)  -- offset_bounds-a-i
+    (λ c. search rules)  -- bounds-a-i
+    (λ c. record { limit = search rules; above = c.before.before.before.loop-i.invariant.1; top = λ l. c.if-a-i-ne0.true })  -- returns-then-a-i-ne0
+    (λ c. search rules)  -- overflow_sub-i-in-loop-i
+    (λ c. search rules)  -- loop-i-smaller
+    (λ c. (search rules, from_more _ _ c.before.before.before.loop-i.invariant.1 c.if-a-i-ne0.false))  -- loop-i-preserved
+    (λ c. record { limit = search rules; above = λ k l. c.before.loop-i.invariant.1 k (omega arith); top = λ l. absurd (omega arith) }))  -- returns
