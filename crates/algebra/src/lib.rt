@@ -1,1 +1,2 @@
 // Commutative rings, residues modulo n and polynomials over them: mathematics only, in specs/.
+#![tactic(auto)]

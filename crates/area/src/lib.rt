@@ -1,5 +1,7 @@
 // Bytes written into a lent area: each writer begins at a place and gives the place after its bytes.
 // All is public for the crates above, and no entry point of the library.
+#![tactic(auto)]
+
 ghost use Rattle.std.specs.Prelude.{[], ◌∷◌, ◌+◌, ◌≤◌, ◌<◌, length};
 ghost use Rattle.area.specs.Wrote.{Wrote};
 

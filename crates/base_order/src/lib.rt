@@ -1,5 +1,7 @@
 // Item 3's order of two polynomials in arrays: which comes first.
 // What is public is so for the crates above, and no entry point of the library.
+#![tactic(auto)]
+
 ghost use Rattle.std.specs.Prelude.{◌<◌};
 ghost use Rattle.specification.specs.Items1to3.{Before};
 ghost use Rattle.lists.specs.Decides.{Decides};

@@ -1,1 +1,2 @@
 // Each claim of `specification`, proved of every accepted sheet: theorems only, in specs/.
+#![tactic(auto)]

@@ -1,5 +1,7 @@
 // What the program `copy` gives out, written into a lent area: the copy's bytes, or the line of a refusal.
 // What is public is so for the program, and no entry point of the library.
+#![tactic(auto)]
+
 ghost use Rattle.std.specs.Prelude.{◌≤◌, length};
 ghost use Rattle.specification.specs.Limits.{answer_area};
 ghost use Rattle.specification.specs.Text.{copied};

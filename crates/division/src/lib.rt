@@ -1,5 +1,7 @@
 // Division of arrays modulo n by a monic polynomial, built of the one loop of `modular`.
 // All is public for the crates above, and no entry point of the library.
+#![tactic(auto)]
+
 ghost use Rattle.std.specs.Prelude.{◌≡◌, ◌<◌, ◌≤◌, replicate};
 ghost use Rattle.algebra.specs.Degree.{Below, Monic};
 ghost use Rattle.algebra.specs.CoefficientLists.{poly, Reduced};
@@ -9,7 +11,7 @@ use arrays::Coefs;
 use modular::add_by;
 use residues::reciprocal;
 
-#[derive(Drop)]
+#[derive(Clone, Copy)]
 pub struct Divided {
     pub quotient: Coefs,
     pub remainder: Coefs,

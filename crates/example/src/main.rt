@@ -1,5 +1,7 @@
 // Document 01's example at work: the factors x + 1, x + 1 and x + 4 modulo 9 multiplied out, and the product divided by x + 4 again.
 // A polynomial is printed by its coefficients, constant first; zero has none.
+#![tactic(auto)]
+
 use libc::STDOUT_FILENO;
 use polynomial::Poly;
 

@@ -2,9 +2,8 @@
 -- Proves: no such list has more than Σ s members (B); in a list of Σ s members, each is in exactly one class and the class of a part
 -- has exactly s members (D), and no member is a product of two non-units (C). Assumes nothing.
 use Rattle.std.specs.Prelude.{◌≡◌, refl, ◌⊎◌, ◌≢◌, List, [], ◌∷◌, map, length, ℕ, zero, suc, ◌≤◌}
-use Rattle.std.proofs.Common.{sym, ◌∙◌, ap, arith}
-use mathlib.Core.List.Memᴰ.{head as here}
-use mathlib.Core.List.Memᴰ.{tail as there}
+use Rattle.std.proofs.Common.{sym, ◌∙◌, ap, inl, inr, arith}
+use mathlib.Core.List.Memᴰ
 use Rattle.algebra.specs.Ring.{CommRing}
 use Rattle.algebra.specs.Identities.{◌⊗◌, ◌≈◌, solve}
 use Rattle.algebra.specs.Divisibility.{◌∣◌ as Divides, Coprime, pow, product, product_cons, coprime_sym, coprime_mul, coprime_pow, gauss}
@@ -104,28 +103,35 @@ module _ {A B : Type 0} {𝓐 : CommRing A} {𝓑 : CommRing B} {bar : A → B} 
     -- what is in no class but that of q
     pub others : (x : A) → total (within x) Q ≤ within x q → Coprime 𝓑 (bar x) (bar C)
 
-  pub cofactor : {q : Part} {Q : List Part} → Apart Q → q ∈ Q → Cofactor q Q
-  cofactor (a, apart) (here {x = r} {xs = Q} e) = rw e record {
-    C = whole Q;
-    law = sym (product_cons 𝓐 r.P (map (λ q. q.P) Q));
-    coprime = coprime_whole (bar r.g) Q a;
-    others = λ x l. outside_all x Q (omega (arith, total_cons (within x) r Q));
-  }
-  cofactor {q} (a, apart) (there {x = r} {xs = Q} i) =
-      let c = cofactor apart i in
-      record {
-        C = r.P *ᴿ c.C;
-        law = solve 𝓐 3 (λ p r c. p ⊗ (r ⊗ c) ≈ r ⊗ (p ⊗ c)) tt q.P r.P c.C ∙ ap (λ x. r.P *ᴿ x) c.law
-            ∙ sym (product_cons 𝓐 r.P (map (λ q. q.P) Q));
-        coprime = times r (coprime_sym 𝓑 (a q i)) c.coprime;
-        others = λ x l.
-            let k = total_cons (within x) r Q in
-            let n = member_le (within x) i in
-            times r (outside x r (omega arith)) (c.others x (omega arith));
-      }
+  times_part : (r : Part) {b : B} {C : A} → Coprime 𝓑 b (bar r.g) → Coprime 𝓑 b (bar C) → Coprime 𝓑 b (bar (r.P *ᴿ C))
+  times_part r {b} {C} c d = rw (bar_mul E r.P C, bar_P r) (coprime_mul 𝓑 (coprime_pow 𝓑 r.m c) d)
+
+  cofactor_in : (Q : List Part) → Apart Q → (q : Part) → q ∈ Q → Cofactor q Q
+  cofactor_in [] _ q i = elim i [ ]
+  cofactor_in (r ∷ Q) (a, apart) q m = go (Memᴰ.cases_cons m) (cofactor_in Q apart q)
     where
-      times : (r : Part) {b : B} {C : A} → Coprime 𝓑 b (bar r.g) → Coprime 𝓑 b (bar C) → Coprime 𝓑 b (bar (r.P *ᴿ C))
-      times r {b} {C} c d = rw (bar_mul E r.P C, bar_P r) (coprime_mul 𝓑 (coprime_pow 𝓑 r.m c) d)
+      go : (q ≡ r) ⊎ (q ∈ Q) → (q ∈ Q → Cofactor q Q) → Cofactor q (r ∷ Q)
+      go (inl e) f = rw e record {
+        C = whole Q;
+        law = sym (product_cons 𝓐 r.P (map (λ q. q.P) Q));
+        coprime = coprime_whole (bar r.g) Q a;
+        others = λ x l. outside_all x Q (omega (arith, total_cons (within x) r Q));
+      }
+      go (inr i) f =
+          let c = f i in
+          record {
+            C = r.P *ᴿ c.C;
+            law = solve 𝓐 3 (λ p r c. p ⊗ (r ⊗ c) ≈ r ⊗ (p ⊗ c)) tt q.P r.P c.C ∙ ap (λ x. r.P *ᴿ x) c.law
+                ∙ sym (product_cons 𝓐 r.P (map (λ q. q.P) Q));
+            coprime = times_part r (coprime_sym 𝓑 (a q i)) c.coprime;
+            others = λ x l.
+                let k = total_cons (within x) r Q in
+                let n = member_le (within x) i in
+                times_part r (outside x r (omega arith)) (c.others x (omega arith));
+          }
+
+  pub cofactor : {q : Part} {Q : List Part} → Apart Q → q ∈ Q → Cofactor q Q
+  cofactor {q} {Q} apart i = cofactor_in Q apart q i
 
   -- ---- the claims
 

@@ -78,6 +78,7 @@ module _ {R : Type 0} {𝓡 : CommRing R} where
 
     others_in : (l : List (Poly 𝓡 × ℕ)) → All (λ P. Irreducible P.0) l → InOrder (λ P Q. P.0 ≢ Q.0) l
         → (P : Poly 𝓡 × ℕ) → P ∈ l → Others P (powers l)
+    others_in [] h _ P i = elim i [ ]
     others_in (Q ∷ l) h (n, ns) P i = go (Memᴰ.cases_cons i) (others_in l (all_tail h) ns P)
       where
         go : (P ≡ Q) ⊎ (P ∈ l) → (P ∈ l → Others P (powers l)) → Others P (powers (Q ∷ l))

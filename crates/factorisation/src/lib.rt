@@ -1,1 +1,2 @@
 // Factor lists over square-zero extensions, and factoring over a field: mathematics only, in specs/.
+#![tactic(auto)]

@@ -1,4 +1,6 @@
 // The 6,027 inverses modulo the taken primes, in one flat table with offsets by prime.
+#![tactic(auto)]
+
 ghost use Rattle.std.specs.Prelude.{◌≡◌, ◌<◌, get_or};
 ghost use Rattle.specification.specs.Limits.{primes};
 ghost use Rattle.inverses.specs.Rule.{Rule};

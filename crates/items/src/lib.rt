@@ -1,1 +1,2 @@
 // Items 1 to 9 and term 3 of the definitions of document 01: theorems only, in specs/.
+#![tactic(auto)]

@@ -1,5 +1,7 @@
 // The library for C: the calls of the header `kuzhmader.h`, where a slice is a pointer and a length. None has a `requires`.
 // Each has the contract of the call that it stands for: the number, the place, the count and every byte of the area.
+#![tactic(auto)]
+
 ghost use Rattle.std.specs.Prelude.{length};
 ghost use Rattle.specification.specs.Calls.{split_call, read_call};
 ghost use Rattle.specification.specs.Copy.{copy_call};

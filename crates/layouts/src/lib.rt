@@ -1,1 +1,2 @@
 // Sheets and answers as bytes, their readers and their sizes: theorems only, in specs/.
+#![tactic(auto)]

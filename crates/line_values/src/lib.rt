@@ -1,5 +1,7 @@
 // The values of the pieces of a typed line, modulo p²: a number, x, sum, difference, product and power, each with its number 0, 16 or 17.
 // What is public is so for the crate above, and no entry point of the library.
+#![tactic(auto)]
+
 ghost use Rattle.std.specs.Prelude.{◌≡◌, true, suc, ◌≤◌, ◌*◌};
 ghost use Rattle.specification.specs.Limits.{taken, ◌²};
 ghost use Rattle.algebra.specs.CoefficientLists.{poly, 𝓩[x]/, Reduced};
@@ -14,7 +16,7 @@ use polynomial::square;
 
 // A piece of a line, read up to the place `end`. Number 0: its value is in `coefs`. 16, 17: it is turned back, but only once the whole line is read.
 // 15: no line can go on at `end`.
-#[derive(Drop)]
+#[derive(Clone, Copy)]
 pub struct Piece {
     pub number: u8,
     pub end: usize,

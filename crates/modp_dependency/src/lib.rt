@@ -1,6 +1,8 @@
 // The least dependency of a linear map modulo a prime p, given by the images of the x^i: the monic polynomial of least degree that goes to 0.
 // The images are brought into echelon form, each beside a polynomial that goes to it. What is public is so for the crates
 // above, and no entry point of the library.
+#![tactic(auto)]
+
 ghost use Rattle.std.specs.Prelude.{◌<◌, ◌≤◌, ◌-◌, ◌+◌};
 ghost use Rattle.algebra.specs.Fields.{Prime};
 ghost use Rattle.algebra.specs.PolynomialRing.{𝟎};
@@ -17,7 +19,7 @@ use modular::add_in_place;
 use residues::inverse;
 
 // A dependency v of the degree given, where one is found; else both say nothing.
-#[derive(Drop)]
+#[derive(Clone, Copy)]
 pub struct Found {
     pub found: bool,
     pub degree: usize,

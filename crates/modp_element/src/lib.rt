@@ -1,6 +1,8 @@
 // Splitting modulo a prime p by least dependencies, where q is monic of degree d: an element that splits q, or the answer that q is a power of
 // one irreducible polynomial; and what an element is for a factor of q. What is public is so for the crates above, and no entry
 // point of the library.
+#![tactic(auto)]
+
 ghost use Rattle.std.specs.Prelude.{◌≡◌, ◌<◌, ◌+◌, ◌-◌, ◌%◌};
 ghost use Rattle.algebra.specs.Fields.{Prime};
 ghost use Rattle.algebra.specs.PolynomialRing.{◌+ᴿ◌, ◌·◌, -ᴿ◌};
@@ -17,7 +19,7 @@ use modp_dependency::{Found, least_dependency};
 use quotients::{power, product_modulo, remainder, times_power_of_x};
 
 // A splitting element, where it is known.
-#[derive(Drop)]
+#[derive(Clone, Copy)]
 pub struct Element {
     pub known: bool,
     pub v: Coefs,

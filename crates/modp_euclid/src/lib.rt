@@ -1,5 +1,7 @@
 // Euclid's algorithm on polynomials over ℤ/p, p a prime, on arrays of 33 coefficients: the monic multiple, the monic gcd, and the
 // monic gcd with one cofactor. What is public is so for the crates above, and no entry point of the library.
+#![tactic(auto)]
+
 ghost use Rattle.std.specs.Prelude.{◌≡◌, ◌<◌, ◌≤◌, ◌+◌, ◌-◌};
 ghost use Rattle.algebra.specs.Degree.{Below, Monic};
 ghost use Rattle.algebra.specs.Fields.{Prime};
@@ -16,21 +18,21 @@ use modular::add_by;
 use residues::{inverse, reciprocal, times};
 
 // unit·a, which is monic.
-#[derive(Drop)]
+#[derive(Clone, Copy)]
 struct MonicMultiple {
     array: Coefs,
     unit: u16,
 }
 
 // The gcd of a and b, and its degree.
-#[derive(Drop)]
+#[derive(Clone, Copy)]
 pub struct Greatest {
     pub gcd: Coefs,
     pub degree: usize,
 }
 
 // The gcd of a and b, its degree, and the cofactor of a: cofactor·a leaves the gcd modulo b.
-#[derive(Drop)]
+#[derive(Clone, Copy)]
 pub struct CommonDivisor {
     pub gcd: Coefs,
     pub degree: usize,

@@ -1,6 +1,8 @@
 // Coprime factors of Q modulo p from a splitting element v: the gcd of Q and the first v - c that has a factor in common with Q, and what
 // it leaves of Q. Where p is large, a polynomial m with m(v) = 0 modulo Q tells which v - c cannot have one. What is public is so for the crates above, and no
 // entry point of the library.
+#![tactic(auto)]
+
 ghost use Rattle.std.specs.Prelude.{◌≡◌, true, ◌<◌, ◌≤◌};
 ghost use Rattle.algebra.specs.Divisibility.{pow};
 ghost use Rattle.algebra.specs.Residues.{residue};
@@ -22,7 +24,7 @@ use quotients::product_modulo;
 const FEW_VALUES_FROM: u16 = 11;
 
 // Q is first·second; the first is of the degree given.
-#[derive(Drop)]
+#[derive(Clone, Copy)]
 pub struct Halves {
     pub first: Coefs,
     pub degree: usize,

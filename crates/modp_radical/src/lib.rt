@@ -1,6 +1,8 @@
 // Modulo a prime p below 256: a divisor of a polynomial that has no square factor, by its derivative, or, where that is 0, the p-th root. Which divisor it is
 // is not promised: of the quotient by the gcd with the derivative the factors of the lowest multiplicity, where they can be told. What is public is so for
 // the crates above, and no entry point of the library.
+#![tactic(auto)]
+
 ghost use Rattle.std.specs.Prelude.{◌≡◌, ◌<◌, suc};
 ghost use Rattle.algebra.specs.PolynomialRing.{𝟎};
 ghost use Rattle.algebra.specs.Degree.{Below, Monic};
@@ -15,7 +17,7 @@ ghost use Rattle.modp_radical.specs.Radicals.{DivisorOf, RadicalOf};
 use arrays::Coefs;
 
 // A monic polynomial of the degree given: the p-th root, or a divisor.
-#[derive(Drop)]
+#[derive(Clone, Copy)]
 pub struct Radical {
     pub coefs: Coefs,
     pub degree: usize,

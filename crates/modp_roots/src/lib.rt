@@ -1,5 +1,7 @@
 // Roots modulo a prime p below 256: the values of a polynomial at all residues, and how often x - c, or any monic polynomial, divides another.
 // What is public is so for the crates above, and no entry point of the library.
+#![tactic(auto)]
+
 ghost use Rattle.std.specs.Prelude.{◌≡◌, suc, ◌<◌, ◌≤◌, ◌/◌, length};
 ghost use Rattle.algebra.specs.Residues.{residue};
 ghost use Rattle.algebra.specs.Degree.{Below, Monic};
@@ -16,7 +18,7 @@ use arrays::Coefs;
 use residues::reduce_narrow;
 
 // What is left of a polynomial, its degree, and how often a divisor was divided out.
-#[derive(Drop)]
+#[derive(Clone, Copy)]
 pub struct Rest {
     pub coefs: Coefs,
     pub degree: usize,

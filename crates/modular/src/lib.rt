@@ -1,6 +1,8 @@
 // Arithmetic modulo n on arrays of 33 coefficients, constant first: n is a prime or its square. Multiple, sum, difference and product
 // are built of one loop in place, r + c·b. The contracts speak of polynomials over ℤ/n. What is public is so for the crates above, and no entry point of
 // the library.
+#![tactic(auto)]
+
 ghost use Rattle.std.specs.Prelude.{◌≡◌, map, ◌<◌, ◌≤◌, ◌/◌, ◌+◌, length};
 ghost use Rattle.algebra.specs.Residues.{residue};
 ghost use Rattle.algebra.specs.PolynomialRing.{◌+ᴿ◌, ◌·◌, -ᴿ◌, constant};

@@ -1,5 +1,7 @@
 // One factor cut off a monic f modulo p², by one step of lifting: its bar is given, and coprime to what it leaves of the bar of f.
 // What is public is so for the crates above, and no entry point of the library.
+#![tactic(auto)]
+
 ghost use Rattle.std.specs.Prelude.{◌<◌, ◌+◌};
 ghost use Rattle.algebra.specs.PolynomialRing.{◌·◌};
 ghost use Rattle.algebra.specs.Degree.{Below, Monic};
@@ -18,14 +20,14 @@ use modular::{add_multiple, modulo, over, product, sum};
 use quotients::product_modulo;
 
 // f is part·rest.
-#[derive(Drop)]
+#[derive(Clone, Copy)]
 pub struct Cut {
     pub part: Coefs,
     pub rest: Coefs,
 }
 
 // What is added to b, and what is taken off its quotient, both p times.
-#[derive(Drop)]
+#[derive(Clone, Copy)]
 struct Changes {
     part: Coefs,
     rest: Coefs,

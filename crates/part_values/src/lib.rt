@@ -1,6 +1,8 @@
 // The values of Algorithm 4.5 of document 002, each proved where the text first has it: g, h bar, m1 and w, u, and the factors made of them.
 // f is a primary polynomial modulo p², which the contracts call the part; G is in `base` and of degree d. Arrays hold 33 coefficients, constant first.
 // What is public is so for the crates above, and no entry point of the library.
+#![tactic(auto)]
+
 ghost use Rattle.std.specs.Prelude.{◌≡◌, true, List, ◌≢◌, ℕ, ◌<◌, ◌≤◌, ◌%◌, ◌*◌};
 ghost use Rattle.specification.specs.Limits.{taken, ◌²};
 ghost use Rattle.specification.specs.Polynomials as spec;
@@ -18,7 +20,7 @@ use modular::{add_multiple, difference, multiple, over, product};
 use residues::{inverse, reduce};
 
 // m1 and w, where h bar = G^m1 · w.
-#[derive(Drop)]
+#[derive(Clone, Copy)]
 pub struct Multiplicity {
     pub m1: usize,
     pub w: Coefs,

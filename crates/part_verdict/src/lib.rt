@@ -1,6 +1,8 @@
 // Algorithm 4.5 of document 002: the verdict on one primary polynomial f modulo p², a part, and its factors by items 4 to 9.
 // `split_part` takes the steps in the order of the text, each under its line; the values are made, and proved, in `part_values`.
 // What is public is so for the crates above, and no entry point of the library.
+#![tactic(auto)]
+
 ghost use Rattle.std.specs.Prelude.{◌≡◌, ◌<◌, ◌≤◌, ◌*◌};
 ghost use Rattle.specification.specs.Limits.{◌²};
 ghost use Rattle.specification.specs.Algorithm45.{is_split};
@@ -16,7 +18,7 @@ use part_values::{digit_lift, divided_by_exponent, h_bar, highest, last_factor, 
 use residues::reduce;
 
 // The text's "f is basic irreducible", "f is irreducible", one pair and two pairs. "a split verdict carries m1 with it".
-#[derive(Drop)]
+#[derive(Clone, Copy)]
 pub enum Verdict {
     Basic,
     Solid,
@@ -25,7 +27,7 @@ pub enum Verdict {
 }
 
 // A monic polynomial modulo p² and how many times it is a factor.
-#[derive(Drop)]
+#[derive(Clone, Copy)]
 pub struct Factor {
     pub coefs: Coefs,
     pub degree: usize,
@@ -33,7 +35,7 @@ pub struct Factor {
 }
 
 // "The verdict is held inside the part's record". `base` is G, `degree` its degree and `exponent` m. The second factor counts only where the verdict is split.
-#[derive(Drop)]
+#[derive(Clone, Copy)]
 pub struct Part {
     pub base: Coefs,
     pub degree: usize,

@@ -1,5 +1,7 @@
 // The parts of a monic f modulo p², one after the other in the order of item 3: first the powers of irreducible polynomials in its bar, and then over each of
 // them one part, cut off of what is left of f. What is public is so for the crates above, and no entry point of the library.
+#![tactic(auto)]
+
 ghost use Rattle.std.specs.Prelude.{List, ◌∷◌, ◌*◌};
 ghost use Rattle.arrays.specs.Held.{MonicModSquare};
 ghost use Rattle.part_values.specs.Given.{Given};
@@ -15,7 +17,7 @@ use part_values::power;
 use part_verdict::{Part, split_part};
 
 // The first part, and what is left, of the degree given.
-#[derive(Drop)]
+#[derive(Clone, Copy)]
 pub struct PartAndRest {
     pub part: Part,
     pub rest: Coefs,

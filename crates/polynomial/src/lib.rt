@@ -1,6 +1,8 @@
 // Polynomials modulo the square of a prime: the record, zero, one, x and the limit of 32, and the public arithmetic of document 01.
 // Each entry point gives back, field by field, what the specification gives for the same records; none has a `requires`. `square`, `proper` and
 // `leading` are public for the crates above, and no entry points.
+#![tactic(auto)]
+
 ghost use Rattle.std.specs.Prelude.{◌≡◌};
 ghost use Rattle.specification.specs.Limits.{◌²};
 ghost use Rattle.specification.specs.Records as records;
@@ -10,14 +12,14 @@ ghost use Rattle.polynomial.specs.AsRecord.{as_record, as_result, as_division, a
 use arrays::Coefs;
 
 // A polynomial record: a prime and 33 coefficients, constant first.
-#[derive(Drop)]
+#[derive(Clone, Copy)]
 pub struct Poly {
     pub prime: u8,
     pub coefs: Coefs,
 }
 
 // What zero, one, x, sum, difference and product give back.
-#[derive(Drop)]
+#[derive(Clone, Copy)]
 pub struct Answer {
     pub number: u8,
     pub place: usize,
@@ -25,7 +27,7 @@ pub struct Answer {
 }
 
 // What division gives back.
-#[derive(Drop)]
+#[derive(Clone, Copy)]
 pub struct Division {
     pub number: u8,
     pub place: usize,

@@ -1,4 +1,6 @@
 // The taken primes, which no other place of the code lists. What is public is so for the crates above, and no entry point of the library.
+#![tactic(auto)]
+
 ghost use Rattle.std.specs.Prelude.{◌≡◌};
 ghost use Rattle.specification.specs.Limits as limits;
 ghost use Rattle.primes.specs.PrimePlaces.{Place};

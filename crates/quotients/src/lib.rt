@@ -1,5 +1,7 @@
 // Arithmetic modulo a monic polynomial q of degree d over ℤ/n, on arrays of 33 coefficients: remainders, multiples by powers of x, products
 // and powers. Each answer is the one remainder of its polynomial by q. What is public is so for the crates above, and no entry point of the library.
+#![tactic(auto)]
+
 ghost use Rattle.std.specs.Prelude.{◌<◌, ◌≤◌, length};
 ghost use Rattle.algebra.specs.Divisibility.{pow};
 ghost use Rattle.algebra.specs.PolynomialRing.{◌·◌, x};

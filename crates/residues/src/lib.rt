@@ -1,5 +1,7 @@
 // Numbers modulo n: remainders and quotients, by a division or by a product with the reciprocal, and inverses modulo a prime.
 // All is public for the crates above, and no entry point of the library.
+#![tactic(auto)]
+
 ghost use Rattle.std.specs.Prelude.{◌≡◌, ◌<◌, ◌≤◌, ◌/◌, ◌%◌, ◌+◌, ◌*◌};
 ghost use Rattle.algebra.specs.Fields.{Prime};
 

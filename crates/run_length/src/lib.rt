@@ -1,6 +1,8 @@
 // The run length of a monic f modulo p²: the least k from 1 to 65,535 for which f divides x^k − 1.
 // Small steps and great ones: x^0 to x^1023 by shifts, of which only marks are kept, then x^1024, x^2048 and so on to x^65536. Where a great step is a small
 // one, x^(1024·j) = x^i, the run is 1024·j − i, since x is a unit modulo f. `run_length` is public for the crates above, and no entry point of the library.
+#![tactic(auto)]
+
 ghost use Rattle.std.specs.Prelude.{◌≡◌, ◌<◌, ◌≤◌, ◌+◌, ◌-◌, ◌*◌, T, length, get_or};
 ghost use Rattle.specification.specs.RunLength as lengths;
 ghost use Rattle.lists.specs.Entries.{Replaced};

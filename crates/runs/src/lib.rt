@@ -1,1 +1,2 @@
 // Run lengths of the definitions of document 02: theorems only, in specs/.
+#![tactic(auto)]

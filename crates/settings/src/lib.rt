@@ -1,1 +1,2 @@
 // How many settings there are: theorems only, in specs/.
+#![tactic(auto)]

@@ -1,5 +1,7 @@
 // The program `sheet`: reads one typed line from standard input and gives out its sheet, or the line of its refusal.
 // What it gives out is `SheetSent` of the bytes it read (specification, Text), by the contract of `sheet_output::write_output`.
+#![tactic(auto)]
+
 use libc::{STDIN_FILENO, STDOUT_FILENO};
 
 fn main() {

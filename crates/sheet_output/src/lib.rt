@@ -1,5 +1,7 @@
 // What the program `sheet` gives out, written into a lent area: the bytes of a line's sheet, or the line of a refusal.
 // What is public is so for the program, and no entry point of the library.
+#![tactic(auto)]
+
 ghost use Rattle.std.specs.Prelude.{◌≤◌, length};
 ghost use Rattle.specification.specs.Limits.{answer_area};
 ghost use Rattle.sheet_output.specs.Sent.{Sent};

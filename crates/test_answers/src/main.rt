@@ -1,5 +1,7 @@
 // Hands the strings of standard input to the answer reader and prints a line for each: number, place, count and the sheet's bytes.
 // The cases and what must be printed are made by tests/reference.
+#![tactic(auto)]
+
 use libc::STDIN_FILENO;
 use splitter::read;
 use test_cases::{AREA, fresh_area, joined, print_call, print_cases};

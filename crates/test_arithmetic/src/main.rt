@@ -1,5 +1,7 @@
 // Works the cases of standard input with the public arithmetic and prints a line for each: number, place and the record or records
 // given back. The cases and what must be printed are made by tests/reference.
+#![tactic(auto)]
+
 use libc::STDIN_FILENO;
 use polynomial::{Answer, Division, Poly};
 use test_cases::{Line, print_cases, record};

@@ -1,5 +1,7 @@
 // What the test programs share: a line that grows and is printed, records read from bytes, and areas that show what a call changed. It is
 // no part of the library, and nothing is promised of it: what a program prints is compared with what the reference printed.
+#![tactic(auto)]
+
 use arrays::Coefs;
 use libc::STDOUT_FILENO;
 use polynomial::Poly;
@@ -11,7 +13,7 @@ pub const AREA: usize = 1024;
 const LINE: usize = 1024;
 
 // A line that grows; what does not fit is left out, and the comparison shows it.
-#[derive(Drop)]
+#[derive(Clone, Copy)]
 pub struct Line {
     bytes: [u8; LINE],
     len: usize,

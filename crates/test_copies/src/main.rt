@@ -1,5 +1,7 @@
 // Asks for the copies of the sheets of standard input and prints a line for each: number, place, count and the copy's bytes.
 // The cases and what must be printed are made by tests/reference.
+#![tactic(auto)]
+
 use libc::STDIN_FILENO;
 use splitter::copy;
 use test_cases::{AREA, fresh_area, joined, print_call, print_cases};

@@ -1,6 +1,8 @@
 // Looks for the parts of the records of standard input and prints a line for each: number, place, then every part with its verdict, base and
 // factors. A record that is not proper has number 10, a polynomial that is not monic 13 and one of degree 0 has 5, at place 0 and with no parts. The
 // cases and what must be printed are made by tests/reference.
+#![tactic(auto)]
+
 ghost use Rattle.std.specs.Prelude.{◌≡◌};
 ghost use Rattle.arrays.specs.Held.{MonicModSquare};
 ghost use Rattle.polynomial.specs.AsRecord.{as_record};

@@ -1,5 +1,7 @@
 // Works the text that `split` prints for each of the sheets of standard input, and prints it. The cases and what must be printed are made by
 // tests/reference.
+#![tactic(auto)]
+
 use libc::{STDIN_FILENO, STDOUT_FILENO};
 use split_text::{TEXT, write_text};
 use test_cases::{AREA, joined, print_cases};
