@@ -37,6 +37,7 @@ module _ (p : ℕ) (pos : 0 < p) where
   pub polynomials_member : (k : ℕ) {f : Poly} → f ∈ polynomials p k → Reduced p k f
   unfolding polynomials below
   polynomials_member zero (here e) = rw e (record { len = refl; low = λ i. pos })
+  polynomials_member zero {f = f} (Memᴰ.tail i) = elim i [ ]
   polynomials_member (suc k) {f} i =
       let (g, j, m) = mem_flat_map (λ (f : Poly). map (before f) (below p)) (polynomials p k) i in
       let (a, n, e) = Memᴰ.of_map (before g) (up_from 0 p) m in

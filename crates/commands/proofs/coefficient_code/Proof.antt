@@ -10,5 +10,5 @@ coefficient_code_spec =
     tie.close
     (tie.spec
     (λ c κs. search rules)  -- wide-requires
-    (λ c. rw (sym c.before.wide.ensures ∙ c.if1.true) refl)  -- returns
-    (λ c. rw (sym c.before.wide.ensures ∙ c.if1.false) refl))  -- returns-2
+    (λ c. rw (sym c.before.wide.ensures ∙ c.if-wide.true) refl)  -- returns-then-wide
+    (λ c. rw (sym c.before.wide.ensures ∙ c.if-wide.false) refl))  -- returns-else-wide

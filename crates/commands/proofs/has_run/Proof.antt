@@ -11,5 +11,5 @@ unfolding has_run
 has_run_spec =
     tie.close
     (tie.spec
-    (λ c. search rules)  -- rem-result
+    (λ c. search rules)  -- nonzero_rem-result
     (λ c. refl))  -- returns

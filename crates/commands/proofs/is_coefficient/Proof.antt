@@ -9,6 +9,6 @@ pub is_coefficient_spec : {M : Type 1} → statement M
 is_coefficient_spec =
     tie.close
     (tie.spec
-    (λ c. rw c.match.keys1 refl)  -- returns
-    (λ c. rw c.match.keys2 refl)  -- returns-2
-    (λ c. let code = c.before.args.code in rw (ne_eqb code 0x03 c.match.rest.0.1, ne_eqb code 0x05 c.match.rest.1) refl))  -- returns-3
+    (λ c. rw c.in-3.is refl)  -- returns-in-3
+    (λ c. rw c.in-5.is refl)  -- returns-in-5
+    (λ c. let code = c.before.args.code in rw (ne_eqb code 0x03 c.in_default.in_default-own.rest.0.1, ne_eqb code 0x05 c.in_default.in_default-own.rest.1) refl))  -- returns-in_default

@@ -12,9 +12,9 @@ unfolding primes
 entry_at_spec =
     tie.close
     (tie.spec
-    (λ c κs. search rules)  -- table-requires
-    (λ c κs. search rules)  -- offset-requires
-    (λ c. search rules)  -- sub-result
-    (λ c. let (u, z, v) = c.before.before.requires in omega (arith, c.offset.ensures, offset_room _ _ u z v))  -- add-result
-    (λ c. let (u, z, v) = c.before.before.requires in omega (arith, c.offset.ensures, offset_room _ _ u z v))  -- array-read-result
-    (λ c. let (u, z, v) = c.before.before.requires in rw c.offset.ensures (c.before.table.ensures.rule _ _ u z v)))  -- returns
+    (λ c κs. search rules)  -- table-t-requires
+    (λ c κs. search rules)  -- offset-first-requires
+    (λ c. search rules)  -- overflow_sub-result
+    (λ c. let (u, z, v) = c.before.before.requires in omega (arith, c.offset-first.ensures, offset_room _ _ u z v))  -- overflow_add-result
+    (λ c. let (u, z, v) = c.before.before.requires in omega (arith, c.offset-first.ensures, offset_room _ _ u z v))  -- bounds-t-first
+    (λ c. let (u, z, v) = c.before.before.requires in rw c.offset-first.ensures (c.before.table-t.ensures.rule _ _ u z v)))  -- returns

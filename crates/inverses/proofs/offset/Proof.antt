@@ -11,6 +11,6 @@ unfolding primes offsets_from
 offset_spec =
     tie.close
     (tie.spec
-    (λ c. search rules)  -- mul-result
-    (λ c. search rules)  -- array-read-result
+    (λ c. search rules)  -- offset_bounds-row
+    (λ c. search rules)  -- bounds-row
     (λ c. offset_is _ (search rules)))  -- returns

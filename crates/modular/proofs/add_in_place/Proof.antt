@@ -11,9 +11,9 @@ pub add_in_place_spec : {M : Type 1} → statement M
 add_in_place_spec =
     tie.close
     (tie.spec
-    (λ c. nothing_added c.before.before.before.requires.3 (rw c.if1.true (zero-mod _)))  -- returns
-    (λ c. nothing_added c.before.before.before.before.requires.3 (rw c.if2.true (mod_self _)))  -- returns-2
-    (λ c κs. omega (arith, c.before.before.before.before.requires.3 0))  -- reciprocal-requires
-    (λ c κs. search rules)  -- add-by-requires
-    (λ c. search rules)  -- same-length
-    (λ c. search rules))  -- returns-3
+    (λ c. nothing_added c.before.before.before.requires.3 (rw c.if-c-eq0.true (zero-mod _)))  -- returns-then-c-eq0
+    (λ c. nothing_added c.before.before.before.before.requires.3 (rw c.if-c-n.true (mod_self _)))  -- returns-then-c-n
+    (λ c κs. omega (arith, c.before.before.before.before.requires.3 0))  -- reciprocal-w-requires
+    (λ c κs. search rules)  -- add_by-requires
+    (λ c. search rules)  -- shape_of-r
+    (λ c. search rules))  -- returns

@@ -10,11 +10,11 @@ pub add_multiple_spec : {M : Type 1} → statement M
 add_multiple_spec =
     tie.close
     (tie.spec
-    (λ c. search rules)  -- mul-r
-    (λ c. search rules)  -- sub-add-in-place
-    (λ c. search rules)  -- part-r-start
-    (λ c. search rules)  -- part-r-end
-    (λ c. search rules)  -- slice-aggregate-add-in-place
+    (λ c. search rules)  -- offset_bounds-r-k
+    (λ c. search rules)  -- slice_bounds-add_in_place-count
+    (λ c. search rules)  -- slice_bounds-r-start
+    (λ c. search rules)  -- slice_bounds-r-end
+    (λ c. search rules)  -- slice_bounds-add_in_place-end
     (λ c κs.
     let pre = c.before.before.requires in (
       pre.0,
@@ -23,7 +23,7 @@ add_multiple_spec =
       part_within c.before.before.args.k _ pre.1 (search rules),
       pre.2.low,
       zero_above pre.2 pre.3,
-    ))  -- add-in-place-requires
+    ))  -- add_in_place-requires
     (λ c.
     let pre = c.before.before.before.before.requires in
-    multiple_added _ _ _ _ _ pre.1 pre.3 (search rules) c.before.add-in-place.ensures))  -- returns
+    multiple_added _ _ _ _ _ pre.1 pre.3 (search rules) c.before.add_in_place.ensures))  -- returns

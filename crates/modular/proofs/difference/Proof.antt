@@ -11,6 +11,6 @@ pub difference_spec : {M : Type 1} → statement M
 difference_spec =
     tie.close
     (tie.spec
-    (λ c. omega (arith, c.requires.0.low 0))  -- sub-add-multiple
-    (λ c κs. (search rules, c.requires.0, c.requires.1, below_length _ _ (search rules), search rules))  -- add-multiple-requires
-    (λ c. difference_represented _ _ _ _ (omega (arith, c.before.requires.0.low 0)) c.add-multiple.ensures))  -- returns
+    (λ c. omega (arith, c.requires.0.low 0))  -- overflow_sub-n
+    (λ c κs. (search rules, c.requires.0, c.requires.1, below_length _ _ (search rules), search rules))  -- add_multiple-requires
+    (λ c. difference_represented _ _ _ _ (omega (arith, c.before.requires.0.low 0)) c.add_multiple.ensures))  -- returns

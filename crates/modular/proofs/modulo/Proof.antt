@@ -9,24 +9,24 @@ use Rattle.modular.proofs.Entrywise.{modulo_done}
 use Rattle.modular.proofs.modulo.Statement.{statement}
 use Rattle.modular.proofs.modulo.Tie as tie
 
-abbrev invariant-loop : tie.invariant-loop
-invariant-loop n a w r₀ i₀ r i = Replaced 0 (λ j. get_or a j 0 % n) a 0 r i
+abbrev invariant-loop-i : tie.invariant-loop-i
+invariant-loop-i n a w r₀ i₀ r i = Replaced 0 (λ j. get_or a j 0 % n) a 0 r i
 
-abbrev decreases-loop : tie.decreases-loop
-decreases-loop n a w r₀ i₀ r i = 33 - i
+abbrev decreases-loop-i : tie.decreases-loop-i
+decreases-loop-i n a w r₀ i₀ r i = 33 - i
 
 pub modulo_spec : {M : Type 1} → statement M
 modulo_spec =
     tie.close
-    (tie.spec invariant-loop decreases-loop
-    (λ c. search rules)  -- div-w
-    (λ c. replaced_none)  -- loop-holds
-    (λ c. search rules)  -- mul-reduce-narrow
-    (λ c. search rules)  -- array-read-reduce-narrow
-    (λ c κs. (search rules, refl))  -- reduce-narrow-requires
-    (λ c. search rules)  -- mul-r
-    (λ c. search rules)  -- array-write-r
-    (λ c. search rules)  -- add-i
-    (λ c. search rules)  -- loop-less
-    (λ c. replaced_more c.before.before.loop.invariant (search rules) c.reduce-narrow.ensures)  -- loop-again
-    (λ c. modulo_done _ c.before.before.requires (search rules) c.before.loop.invariant (search rules)))  -- returns
+    (tie.spec invariant-loop-i decreases-loop-i
+    (λ c. search rules)  -- nonzero_div-w
+    (λ c. replaced_none)  -- loop-i-init
+    (λ c. search rules)  -- offset_bounds-a-i
+    (λ c. search rules)  -- bounds-a-i
+    (λ c κs. (search rules, refl))  -- reduce_narrow-requires
+    (λ c. search rules)  -- offset_bounds-r-i
+    (λ c. search rules)  -- bounds-r-i
+    (λ c. search rules)  -- overflow_add-i
+    (λ c. search rules)  -- loop-i-smaller
+    (λ c. replaced_more c.before.before.loop-i.invariant (search rules) c.reduce_narrow.ensures)  -- loop-i-preserved
+    (λ c. modulo_done _ c.before.before.requires (search rules) c.before.loop-i.invariant (search rules)))  -- returns

@@ -9,24 +9,24 @@ use Rattle.modular.proofs.Entrywise.{over_done}
 use Rattle.modular.proofs.over.Statement.{statement}
 use Rattle.modular.proofs.over.Tie as tie
 
-abbrev invariant-loop : tie.invariant-loop
-invariant-loop p a w q₀ i₀ q i = Replaced 0 (λ j. get_or a j 0 / p) a 0 q i
+abbrev invariant-loop-i : tie.invariant-loop-i
+invariant-loop-i p a w q₀ i₀ q i = Replaced 0 (λ j. get_or a j 0 / p) a 0 q i
 
-abbrev decreases-loop : tie.decreases-loop
-decreases-loop p a w q₀ i₀ q i = 33 - i
+abbrev decreases-loop-i : tie.decreases-loop-i
+decreases-loop-i p a w q₀ i₀ q i = 33 - i
 
 pub over_spec : {M : Type 1} → statement M
 over_spec =
     tie.close
-    (tie.spec invariant-loop decreases-loop
-    (λ c. search rules)  -- div-w
-    (λ c. replaced_none)  -- loop-holds
-    (λ c. search rules)  -- mul-quotient-narrow
-    (λ c. search rules)  -- array-read-quotient-narrow
-    (λ c κs. (search rules, refl))  -- quotient-narrow-requires
-    (λ c. search rules)  -- mul-q
-    (λ c. search rules)  -- array-write-q
-    (λ c. search rules)  -- add-i
-    (λ c. search rules)  -- loop-less
-    (λ c. replaced_more c.before.before.loop.invariant (search rules) c.quotient-narrow.ensures)  -- loop-again
-    (λ c. over_done _ c.before.loop.invariant (search rules)))  -- returns
+    (tie.spec invariant-loop-i decreases-loop-i
+    (λ c. search rules)  -- nonzero_div-w
+    (λ c. replaced_none)  -- loop-i-init
+    (λ c. search rules)  -- offset_bounds-a-i
+    (λ c. search rules)  -- bounds-a-i
+    (λ c κs. (search rules, refl))  -- quotient_narrow-requires
+    (λ c. search rules)  -- offset_bounds-q-i
+    (λ c. search rules)  -- bounds-q-i
+    (λ c. search rules)  -- overflow_add-i
+    (λ c. search rules)  -- loop-i-smaller
+    (λ c. replaced_more c.before.before.loop-i.invariant (search rules) c.quotient_narrow.ensures)  -- loop-i-preserved
+    (λ c. over_done _ c.before.loop-i.invariant (search rules)))  -- returns

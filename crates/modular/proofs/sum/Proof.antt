@@ -11,5 +11,5 @@ pub sum_spec : {M : Type 1} → statement M
 sum_spec =
     tie.close
     (tie.spec
-    (λ c κs. (omega (arith, c.requires.0.low 0), c.requires.0, c.requires.1, below_length _ _ (search rules), search rules))  -- add-multiple-requires
-    (λ c. sum_represented _ _ _ _ c.add-multiple.ensures))  -- returns
+    (λ c κs. (omega (arith, c.requires.0.low 0), c.requires.0, c.requires.1, below_length _ _ (search rules), search rules))  -- add_multiple-requires
+    (λ c. sum_represented _ _ _ _ c.add_multiple.ensures))  -- returns

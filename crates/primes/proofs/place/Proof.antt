@@ -12,21 +12,21 @@ use Rattle.primes.specs.PrimePlaces.{place_found, place_none}
 use Rattle.primes.proofs.place.Statement.{statement}
 use Rattle.primes.proofs.place.Tie as tie
 
-abbrev invariant-loop : tie.invariant-loop
-invariant-loop prime i₀ i = (k : ℕ) → k < i → prime ≡ get_or primes k 0 → ⊥
+abbrev invariant-loop-i : tie.invariant-loop-i
+invariant-loop-i prime i₀ i = (k : ℕ) → k < i → prime ≡ get_or primes k 0 → ⊥
 
-abbrev decreases-loop : tie.decreases-loop
-decreases-loop prime i₀ i = length primes - i
+abbrev decreases-loop-i : tie.decreases-loop-i
+decreases-loop-i prime i₀ i = length primes - i
 
 pub place_spec : {M : Type 1} → statement M
 unfolding primes
 place_spec =
     tie.close
-    (tie.spec invariant-loop decreases-loop
-    (λ c. below_none _)  -- loop-holds
-    (λ c. search rules)  -- array-read-if1
-    (λ c. place_found _ _ (search rules) c.if1.true)  -- returns
-    (λ c. search rules)  -- add-i
-    (λ c. search rules)  -- loop-less
-    (λ c. below_more _ _ c.before.before.loop.invariant c.if1.false)  -- loop-again
-    (λ c. place_none _ (λ k l. c.before.loop.invariant k (omega arith))))  -- returns-2
+    (tie.spec invariant-loop-i decreases-loop-i
+    (λ c. below_none _)  -- loop-i-init
+    (λ c. search rules)  -- bounds-i
+    (λ c. place_found _ _ (search rules) c.if-prime-i.true)  -- returns-then-prime-i
+    (λ c. search rules)  -- overflow_add-i
+    (λ c. search rules)  -- loop-i-smaller
+    (λ c. below_more _ _ c.before.before.loop-i.invariant c.if-prime-i.false)  -- loop-i-preserved
+    (λ c. place_none _ (λ k l. c.before.loop-i.invariant k (omega arith))))  -- returns

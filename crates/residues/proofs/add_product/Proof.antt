@@ -16,12 +16,12 @@ pub add_product_spec : {M : Type 1} → statement M
 add_product_spec =
     tie.close
     (tie.spec
-    (λ c. omega (arith, upper_half _ _ c.before.requires.0, div-le_self 65535 c.before.args.n))  -- cast-reduce-narrow
-    (λ c. omega (arith, narrow c.before c.if1.true))  -- mul-reduce-narrow
-    (λ c. omega (arith, narrow c.before c.if1.true))  -- add-reduce-narrow
-    (λ c κs. (search rules, upper_half _ _ c.before.requires.0))  -- reduce-narrow-requires
-    (λ c. omega (arith, product_width c.before.args.c c.before.args.z (omega arith) (omega arith)))  -- mul-reduce-by
-    (λ c. omega (arith, product_width c.before.args.c c.before.args.z (omega arith) (omega arith)))  -- add-reduce-by
-    (λ c κs. (search rules, c.before.requires.0))  -- reduce-by-requires
-    (λ c. search rules)  -- returns
-    (λ c. search rules))  -- returns-2
+    (λ c. omega (arith, upper_half _ _ c.before.requires.0, div-le_self 65535 c.before.args.n))  -- overflow_cast-w
+    (λ c. omega (arith, narrow c.before c.if-n-lt256.true))  -- overflow_mul-c
+    (λ c. omega (arith, narrow c.before c.if-n-lt256.true))  -- overflow_add-y
+    (λ c κs. (search rules, upper_half _ _ c.before.requires.0))  -- reduce_narrow-requires
+    (λ c. omega (arith, product_width c.before.args.c c.before.args.z (omega arith) (omega arith)))  -- overflow_mul-c-else-n-lt256
+    (λ c. omega (arith, product_width c.before.args.c c.before.args.z (omega arith) (omega arith)))  -- overflow_add-y-else-n-lt256
+    (λ c κs. (search rules, c.before.requires.0))  -- reduce_by-requires
+    (λ c. search rules)  -- returns-then-n-lt256
+    (λ c. search rules))  -- returns-else-n-lt256

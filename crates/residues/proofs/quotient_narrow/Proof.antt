@@ -17,10 +17,10 @@ pub quotient_narrow_spec : {M : Type 1} → statement M
 quotient_narrow_spec =
     tie.close
     (tie.spec
-    (λ c. omega (arith, product_fits B _ _ _ c.requires.0 c.requires.1 (low c)))  -- mul-q
-    (λ c. omega (arith, quotient_fits B _ _ _ c.requires.0 c.requires.1 (low c)))  -- cast-q
-    (λ c. omega (arith, quotient_low B _ _ _ c.requires.0 c.requires.1 (low c)))  -- mul-t
-    (λ c. quotient_low B _ _ _ c.requires.0 c.requires.1 (low c))  -- sub-t
-    (λ c. omega (arith, more_fits B _ _ _ c.before.requires.0 c.before.requires.1 (low c.before) c.if1.false))  -- add-result
-    (λ c. once_gone B _ _ _ c.before.requires.0 c.before.requires.1 (low c.before) c.if1.true)  -- returns
-    (λ c. twice_gone B _ _ _ c.before.requires.0 c.before.requires.1 (low c.before) c.if1.false))  -- returns-2
+    (λ c. omega (arith, product_fits B _ _ _ c.requires.0 c.requires.1 (low c)))  -- overflow_mul-q
+    (λ c. omega (arith, quotient_fits B _ _ _ c.requires.0 c.requires.1 (low c)))  -- overflow_cast-q-3
+    (λ c. omega (arith, quotient_low B _ _ _ c.requires.0 c.requires.1 (low c)))  -- overflow_mul-t
+    (λ c. quotient_low B _ _ _ c.requires.0 c.requires.1 (low c))  -- overflow_sub-t
+    (λ c. omega (arith, more_fits B _ _ _ c.before.requires.0 c.before.requires.1 (low c.before) c.if-t-n.false))  -- overflow_add-result
+    (λ c. once_gone B _ _ _ c.before.requires.0 c.before.requires.1 (low c.before) c.if-t-n.true)  -- returns-then-t-n
+    (λ c. twice_gone B _ _ _ c.before.requires.0 c.before.requires.1 (low c.before) c.if-t-n.false))  -- returns-else-t-n

@@ -10,6 +10,6 @@ pub reduce_spec : {M : Type 1} → statement M
 reduce_spec =
     tie.close
     (tie.spec
-    (λ c. search rules)  -- rem-result
-    (λ c. omega (arith, mod-lt c.args.s c.requires))  -- cast-result
+    (λ c. search rules)  -- nonzero_rem-result
+    (λ c. omega (arith, mod-lt c.args.s c.requires))  -- overflow_cast-result-2
     (λ c. (search rules, mod-lt c.args.s c.requires)))  -- returns

@@ -18,12 +18,12 @@ pub reduce_by_spec : {M : Type 1} → statement M
 reduce_by_spec =
     tie.close
     (tie.spec
-    (λ c. omega (arith, product_fits B _ _ _ c.requires.0 c.requires.1 (low c)))  -- mul-q
-    (λ c. omega (arith, quotient_fits B _ _ _ c.requires.0 c.requires.1 (low c)))  -- cast-q
-    (λ c. omega (arith, quotient_low B _ _ _ c.requires.0 c.requires.1 (low c)))  -- mul-t
-    (λ c. quotient_low B _ _ _ c.requires.0 c.requires.1 (low c))  -- sub-t
-    (λ c. search rules)  -- cast-result
-    (λ c. search rules)  -- sub-result
-    (λ c. omega (arith, quotient_high B _ _ _ c.before.requires.0 c.before.requires.1 (low c.before)))  -- cast-result-2
-    (λ c. once_left B _ _ _ c.before.requires.0 c.before.requires.1 (low c.before) c.if1.true)  -- returns
-    (λ c. twice_left B _ _ _ c.before.requires.0 c.before.requires.1 (low c.before) c.if1.false))  -- returns-2
+    (λ c. omega (arith, product_fits B _ _ _ c.requires.0 c.requires.1 (low c)))  -- overflow_mul-q
+    (λ c. omega (arith, quotient_fits B _ _ _ c.requires.0 c.requires.1 (low c)))  -- overflow_cast-q-3
+    (λ c. omega (arith, quotient_low B _ _ _ c.requires.0 c.requires.1 (low c)))  -- overflow_mul-t
+    (λ c. quotient_low B _ _ _ c.requires.0 c.requires.1 (low c))  -- overflow_sub-t
+    (λ c. search rules)  -- overflow_cast-result
+    (λ c. search rules)  -- overflow_sub-result
+    (λ c. omega (arith, quotient_high B _ _ _ c.before.requires.0 c.before.requires.1 (low c.before)))  -- overflow_cast-result-else-t-n-2
+    (λ c. once_left B _ _ _ c.before.requires.0 c.before.requires.1 (low c.before) c.if-t-n.true)  -- returns-then-t-n
+    (λ c. twice_left B _ _ _ c.before.requires.0 c.before.requires.1 (low c.before) c.if-t-n.false))  -- returns-else-t-n

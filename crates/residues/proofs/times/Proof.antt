@@ -12,7 +12,7 @@ pub times_spec : {M : Type 1} → statement M
 times_spec =
     tie.close
     (tie.spec
-    (λ c. (rw (c.if1.true, mul-one) (sym (mod-eq_of_lt c.before.requires)), c.before.requires))  -- returns
-    (λ c. omega (arith, product_width c.before.args.c c.before.args.z (omega arith) (omega arith)))  -- mul-reduce
+    (λ c. (rw (c.if-z-eq1.true, mul-one) (sym (mod-eq_of_lt c.before.requires)), c.before.requires))  -- returns-then-z-eq1
+    (λ c. omega (arith, product_width c.before.args.c c.before.args.z (omega arith) (omega arith)))  -- overflow_mul-c
     (λ c κs. search rules)  -- reduce-requires
-    (λ c. search rules))  -- returns-2
+    (λ c. search rules))  -- returns
