@@ -147,6 +147,6 @@ least_dependency_spec =
     (λ c.
     let prime = c.requires.0 in
     let loop = c.loop-i in
-    ⊎_elim (λ end. searching_done end.left loop.invariant.0)
-    (λ (test, begun, none). searching_found prime test.taken loop.invariant.0 (loop.invariant.1.reduced begun.left) none.taken)
-    c.loop-i-test.branch))  -- returns
+    ⊎_elim (λ end. searching_done end.loop-i-test.false loop.invariant.0)
+    (λ found. searching_found prime found.loop-i-test.true loop.invariant.0 (loop.invariant.1.reduced found.if-fresh.false) found.if-k-eq0.true)
+    c.loop-i-test.branch-raw))  -- returns
