@@ -27,22 +27,22 @@ pub +power_spec : {M : Type 1} → statement M
 +power_spec =
     close μ_power
     (λ t. power-lts.spec (power_below t, power.Post, product.Asked, product.Learnt) (power_at t) power.Post
-    (λ c. let pre = c.before.requires.1 in power_one _ _ _ _ c.if1.true pre.2 pre.4)  -- returns
+    (λ c. let pre = c.before.requires.1 in power_one _ _ _ _ c.if-k-eq1.true pre.2 pre.4)  -- returns
     (λ c κs.
     let pre = c.before.requires in
-    let (less, positive) = halved c.before.args.k pre.1.0 c.if1.false in
+    let (less, positive) = halved c.before.args.k pre.1.0 c.if-k-eq1.false in
     (omega (arith, pre.0, less), (positive, pre.1.1, pre.1.2, pre.1.3, pre.1.4, pre.1.5)))  -- power-requires
     (λ c κs.
     let pre = c.before.before.requires.1 in
-    let h = c.power.ensures in
+    let h = c.power-h.ensures in
     (pre.1, h.reduced, h.reduced, pre.3, h.small, pre.5))  -- product-modulo-requires
     (λ c.
     let s = c.before in
-    power_even _ _ _ _ s.before.power.ensures s.product-modulo.ensures c.if2.true)  -- returns-2
+    power_even _ _ _ _ s.before.power-h.ensures s.product_modulo-s.ensures c.if-k-eq0.true)  -- returns-2
     (λ c κs.
     let pre = c.before.before.before.before.requires.1 in
-    let s = c.before.product-modulo.ensures in
+    let s = c.before.product_modulo-s.ensures in
     (pre.1, pre.2, s.reduced, pre.3, s.small, pre.5))  -- product-modulo-requires-2
     (λ c.
     let s = c.before.before in
-    power_odd _ _ _ _ s.before.power.ensures s.product-modulo.ensures c.before.if2.false c.product-modulo2.ensures))  -- returns-3
+    power_odd _ _ _ _ s.before.power-h.ensures s.product_modulo-s.ensures c.before.if-k-eq0.false c.product_modulo.ensures))  -- returns-3

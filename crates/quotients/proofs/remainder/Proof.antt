@@ -9,5 +9,5 @@ pub remainder_spec : {M : Type 1} → statement M
 remainder_spec =
     tie.close
     (tie.spec
-    (λ c κs. search rules)  -- divide-requires
-    (λ c. remainder_divided _ c.before.divide.ensures))  -- returns
+    (λ c κs. search rules)  -- divide-t-requires
+    (λ c. remainder_divided _ c.before.divide-t.ensures))  -- returns

@@ -18,13 +18,13 @@ shift_spec =
     (λ c κs.
     let start = c.before.before.before in
     let l : start.args.d ≤ 32 = omega arith in
-    (omega (arith, start.requires.1.len), zero_above start.requires.1 (below_up l start.requires.3)))  -- move-up-requires
-    (λ c. search rules)  -- mul-c
-    (λ c. search rules)  -- slice-read-c
+    (omega (arith, start.requires.1.len), zero_above start.requires.1 (below_up l start.requires.3)))  -- move_up-requires
+    (λ c. search rules)  -- offset_bounds-r-d
+    (λ c. search rules)  -- bounds-r-d
     (λ c.
     let start = c.before.before.before.before.before.before.before in
-    omega (arith, (moved_reduced start.requires.1 c.before.before.before.move_up.ensures).low start.args.d))  -- sub-c
-    (λ c. search rules)  -- add-add-in-place
+    omega (arith, (moved_reduced start.requires.1 c.before.before.before.move_up.ensures).low start.args.d))  -- overflow_sub-c
+    (λ c. search rules)  -- overflow_add-d
     (λ c κs.
     let pre = c.before.before.before.before.before.before.before.before.requires in
     let moved = moved_reduced pre.1 c.before.before.before.before.move_up.ensures in (
@@ -34,10 +34,10 @@ shift_spec =
       moved.low,
       pre.2.low,
       zero_above pre.2 (rw add-one pre.4.below),
-    ))  -- add-in-place-requires
-    (λ c. search rules)  -- same-length
+    ))  -- add_in_place-requires
+    (λ c. search rules)  -- shape_of-r
     (λ c.
     let pre = c.before.before.before.before.before.before.before.before.before.before.before.requires in
     let up = c.before.before.before.before.before.before.before.move_up.ensures in
-    let added = multiple_added_to _ _ _ _ (moved_reduced pre.1 up) c.before.before.add-in-place.ensures in
+    let added = multiple_added_to _ _ _ _ (moved_reduced pre.1 up) c.before.before.add_in_place.ensures in
     shifted pre.1 up pre.3 pre.4 added))  -- returns
