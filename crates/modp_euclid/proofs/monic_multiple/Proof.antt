@@ -10,14 +10,14 @@ pub monic_multiple_spec : {M : Type 1} → statement M
 monic_multiple_spec =
     tie.close
     (tie.spec
-    (λ c. search rules)  -- mul-inverse
-    (λ c. search rules)  -- array-read-inverse
-    (λ c κs. (c.requires.0, leading_pos _ _ c.requires.2, c.requires.1.low _))  -- inverse-requires
-    (λ c. search rules)  -- add-multiple
+    (λ c. search rules)  -- offset_bounds-a-e
+    (λ c. search rules)  -- bounds-a-e
+    (λ c κs. (c.requires.0, leading_pos _ _ c.requires.2, c.requires.1.low _))  -- inverse-unit-requires
+    (λ c. search rules)  -- overflow_add-e
     (λ c κs.
-    let h = c.before.requires in
-    (search rules, h.2.limit, h.1, below_size _ h.2))  -- multiple-requires
+    let h = c.requires in
+    (search rules, h.2.limit, h.1, below_size _ h.2))  -- multiple-array-requires
     (λ c.
-    let h = c.before.before.requires in
-    let inverse = c.before.inverse.ensures in
-    monic_multiple (monic_by_inverse h.0 h.2 inverse.1) inverse.0 c.multiple.ensures))  -- returns
+    let h = c.requires in
+    let inverse = c.inverse-unit.ensures in
+    monic_multiple (monic_by_inverse h.0 h.2 inverse.1) inverse.0 c.multiple-array.ensures))  -- returns

@@ -10,8 +10,8 @@ pub monic_row_spec : {M : Type 1} → statement M
 monic_row_spec =
     tie.close
     (tie.spec
-    (λ c κs. search rules)  -- monic-multiple-requires
-    (λ c κs. search rules)  -- multiple-requires
+    (λ c κs. search rules)  -- monic_multiple-m-requires
+    (λ c κs. search rules)  -- multiple-v-requires
     (λ c.
-    let h = c.before.before.before.requires in
-    (monic_row h.2 c.before.before.monic-multiple.ensures c.before.multiple.ensures, refl)))  -- returns
+    let h = c.requires in
+    (monic_row h.2 c.monic_multiple-m.ensures c.multiple-v.ensures, refl)))  -- returns

@@ -19,11 +19,11 @@ use Rattle.modp_roots.specs.DividedOut.{Dividing, dividing_none, dividing_more, 
 use Rattle.modp_roots.proofs.divide_power.Statement.{statement}
 use Rattle.modp_roots.proofs.divide_power.Tie as tie
 
-abbrev invariant-loop : tie.invariant-loop
-invariant-loop n k c p f₀ e₀ m₀ f e m = Dividing p (poly p f₀) n (linear (residue p c)) 1 f e m
+abbrev invariant-loop-e : tie.invariant-loop-e
+invariant-loop-e n k c p f₀ e₀ m₀ f e m = Dividing p (poly p f₀) n (linear (residue p c)) 1 f e m
 
-abbrev decreases-loop : tie.decreases-loop
-decreases-loop n k c p f₀ e₀ m₀ f e m = e
+abbrev decreases-loop-e : tie.decreases-loop-e
+decreases-loop-e n k c p f₀ e₀ m₀ f e m = e
 
 -- the k lowest entries, as they are lent
 lowest : {k : ℕ} (w : List ℕ) → k ≤ 33 → length w ≡ 33 → (k ≤ 33) × (k ≤ length (take (k - 0) w)) × ZeroFrom k (take (k - 0) w)
@@ -38,12 +38,12 @@ nothing {z = z} k w s e = size_zero (subst (λ (t : ℕ). Size (take t w) z) (su
 pub divide_power_spec : {M : Type 1} → statement M
 divide_power_spec =
     tie.close
-    (tie.spec invariant-loop decreases-loop
-    (λ c. dividing_none c.requires.5 c.requires.6)  -- loop-holds
-    (λ c. search rules)  -- slice-aggregate-divide-binomial
+    (tie.spec invariant-loop-e decreases-loop-e
+    (λ c. dividing_none c.requires.5 c.requires.6)  -- loop-e-init
+    (λ c. search rules)  -- slice_bounds-divide_binomial-end
     (λ c κs.
-    let pre = c.before.before.before.requires in
-    let D = c.before.before.loop.invariant in (
+    let pre = c.requires in
+    let D = c.loop-e.invariant in (
       pre.1,
       pre.3,
       power_positive pre.0 pre.4,
@@ -51,30 +51,30 @@ divide_power_spec =
       omega (arith, dividing_least D, D.reduced.len),
       D.reduced.low,
       D.monic.below,
-    ))  -- divide-binomial-requires
-    (λ c. search rules)  -- sub-size-below
-    (λ c. search rules)  -- part-size-below-start
-    (λ c. search rules)  -- part-size-below-end
+    ))  -- divide_binomial-requires
+    (λ c. search rules)  -- slice_bounds-size_below-count
+    (λ c. search rules)  -- slice_bounds-size_below-start
+    (λ c. search rules)  -- slice_bounds-size_below-end
     (λ c κs.
-    let D = c.before.before.before.before.before.before.loop.invariant in
-    lowest _ (omega (arith, dividing_least D)) (c.before.before.before.divide-binomial.ensures.len ∙ D.reduced.len))  -- size-below-requires
-    (λ c. c.before.before.before.before.before.before.before.before.loop.invariant)  -- returns
-    (λ c κs. omega (arith, dividing_least c.before.before.before.before.before.before.before.before.loop.invariant))  -- move-down-requires
+    let D = c.loop-e.invariant in
+    lowest _ (omega (arith, dividing_least D)) (c.divide_binomial.ensures.len ∙ D.reduced.len))  -- size_below-requires
+    (λ c. c.loop-e.invariant)  -- returns-then-size_below-ne0
+    (λ c κs. omega (arith, dividing_least c.loop-e.invariant))  -- move_down-q-requires
     (λ c.
     omega (
       arith,
-      dividing_least c.before.before.before.before.before.before.before.before.before.loop.invariant,
-      dividing_times c.before.before.before.before.before.before.before.before.before.loop.invariant (omega arith),
-    ))  -- add-m
+      dividing_least c.loop-e.invariant,
+      dividing_times c.loop-e.invariant (omega arith),
+    ))  -- overflow_add-m
     (λ c.
-    let pre = c.before.before.before.before.before.before.before.before.before.before.requires in
-    omega (arith, power_positive pre.0 pre.4))  -- loop-less
+    let pre = c.requires in
+    omega (arith, power_positive pre.0 pre.4))  -- loop-e-smaller
     (λ c.
-    let pre = c.before.before.before.before.before.before.before.before.before.before.requires in
-    let k = c.before.before.before.before.before.before.before.before.before.before.args.k in
-    let D = c.before.before.before.before.before.before.before.before.before.loop.invariant in
-    let Q = c.before.before.before.before.before.before.divide-binomial.ensures in
-    let M = c.move_down.ensures in
-    let none = nothing k _ c.before.before.size_below.ensures c.before.if1.false in
-    dividing_more D pre.0 (monic_linear (residue _ _)) k (omega arith) (moved_reduced Q M) (power_exact Q M pre.0 pre.4 none))  -- loop-again
-    (λ c. c.before.loop.invariant))  -- returns-2
+    let pre = c.requires in
+    let k = c.args.k in
+    let D = c.loop-e.invariant in
+    let Q = c.divide_binomial.ensures in
+    let M = c.move_down-q.ensures in
+    let none = nothing k _ c.size_below.ensures c.if-size_below-ne0.false in
+    dividing_more D pre.0 (monic_linear (residue _ _)) k (omega arith) (moved_reduced Q M) (power_exact Q M pre.0 pre.4 none))  -- loop-e-preserved
+    (λ c. c.loop-e.invariant))  -- returns

@@ -11,8 +11,8 @@ unfolding division_number
 division_number_spec =
     tie.close
     (tie.spec
-    (λ c κs. search rules)  -- pair-number-requires
+    (λ c κs. search rules)  -- pair_number-number-requires
     (λ c κs. search rules)  -- leading-requires
-    (λ c. rw (← c.before.before.before.pair-number.ensures, c.before.before.if1.true, ← c.before.leading.ensures, c.if2.true))  -- returns
-    (λ c. rw (← c.before.before.before.pair-number.ensures, c.before.before.if1.true, ← c.before.leading.ensures) (search cases))  -- returns-2
-    (λ c. rw (← c.before.pair-number.ensures) (search cases)))  -- returns-3
+    (λ c. rw (← c.before.before.before.pair_number-number.ensures, c.before.before.if-number-eq0.true, ← c.before.leading.ensures, c.if-leading-eq1.true))  -- returns-then-leading-eq1
+    (λ c. rw (← c.before.before.before.pair_number-number.ensures, c.before.before.if-number-eq0.true, ← c.before.leading.ensures) (search cases))  -- returns-else-leading-eq1
+    (λ c. rw (← c.before.pair_number-number.ensures) (search cases)))  -- returns-else-number-eq0

@@ -14,5 +14,5 @@ fixed_spec =
     (λ c κs. search rules)  -- taken-requires
     (λ c κs. search rules)  -- accept-requires
     (λ c κs. search rules)  -- refuse-requires
-    (λ c. c.accept.ensures ∙ (rw (← c.before.before.taken.ensures, c.before.if1.true) refl))  -- returns
-    (λ c. c.refuse.ensures ∙ (rw (← c.before.before.taken.ensures, c.before.if1.false) refl)))  -- returns-2
+    (λ c. c.accept.ensures ∙ (rw (← c.before.before.taken.ensures, c.before.if-taken.true) refl))  -- returns-then-taken
+    (λ c. c.refuse.ensures ∙ (rw (← c.before.before.taken.ensures, c.before.if-taken.false) refl)))  -- returns-else-taken

@@ -11,9 +11,9 @@ pub leading_spec : {M : Type 1} → statement M
 leading_spec =
     tie.close
     (tie.spec
-    (λ c κs. search rules)  -- size-requires
-    (λ c. search rules)  -- sub-result
-    (λ c. search rules)  -- mul-result
-    (λ c. search rules)  -- array-read-result
-    (λ c. sym (leading_trim c.before.size.ensures ∙ c.before.size.ensures.above _ (omega arith)))  -- returns
-    (λ c. sym (leading_trim c.before.size.ensures)))  -- returns-2
+    (λ c κs. search rules)  -- size-s-requires
+    (λ c. search rules)  -- overflow_sub-result
+    (λ c. search rules)  -- offset_bounds-f-s
+    (λ c. search rules)  -- bounds-f-s
+    (λ c. sym (leading_trim c.before.size-s.ensures ∙ c.before.size-s.ensures.above _ (omega arith)))  -- returns-then-s-eq0
+    (λ c. sym (leading_trim c.before.size-s.ensures)))  -- returns-else-s-eq0

@@ -16,15 +16,15 @@ unfolding product_of
 mul_spec =
     tie.close
     (tie.spec
-    (λ c κs. search rules)  -- product-number-requires
-    (λ c κs. search rules)  -- size-requires
-    (λ c κs. search rules)  -- size-requires-2
+    (λ c κs. search rules)  -- product_number-number-requires
+    (λ c κs. search rules)  -- size-s-requires
+    (λ c κs. search rules)  -- size-t-requires
     (λ c κs. search rules)  -- square-requires
     (λ c κs.
     let d = c.before.before.before.before.before in
-    let e = product_accepted _ _ (sym d.before.product-number.ensures ∙ d.if1.true) in
-    let s = c.before.before.size.ensures in
-    let t = c.before.size2.ensures in
+    let e = product_accepted _ _ (sym d.before.product_number-number.ensures ∙ d.if-number-eq0.true) in
+    let s = c.before.before.size-s.ensures in
+    let t = c.before.size-t.ensures in
     rw c.square.ensures
     (e.0.first, e.0.second, s.limit, omega (arith, e.1, length_trim s, length_trim t), below_size _ s, below_size _ t))  -- product-requires
     (λ c κs. search rules)  -- accept-requires
@@ -32,6 +32,6 @@ mul_spec =
     (λ c.
     let d = c.before.before.before.before.before.before.before in
     c.accept.ensures
-    ∙ product_is _ _ (sym d.before.product-number.ensures ∙ d.if1.true)
-    (rw c.before.before.square.ensures at c.before.product.ensures))  -- returns
-    (λ c. c.refuse.ensures ∙ (rw (← c.before.before.product-number.ensures) (result_refused _ c.before.if1.false))))  -- returns-2
+    ∙ product_is _ _ (sym d.before.product_number-number.ensures ∙ d.if-number-eq0.true)
+    (rw c.before.before.square.ensures at c.before.product.ensures))  -- returns-then-number-eq0
+    (λ c. c.refuse.ensures ∙ (rw (← c.before.before.product_number-number.ensures) (result_refused _ c.before.if-number-eq0.false))))  -- returns-else-number-eq0

@@ -12,12 +12,12 @@ pair_number_spec =
     tie.close
     (tie.spec
     (λ c κs. search rules)  -- proper-requires
-    (λ c κs. search rules)  -- proper-requires-2
+    (λ c κs. search rules)  -- proper-requires-then-proper
     (λ c.
     let d = c.before.before.before.before in
-    rw (← d.before.before.proper.ensures, d.before.if1.true, ← d.proper2.ensures, c.before.before.before.if2.true) (search cases))  -- returns
+    rw (← d.before.before.proper.ensures, d.before.if-proper.true, ← d.proper-then-proper.ensures, c.before.before.before.if-proper-2.true) (search cases))  -- returns-then-a-b
     (λ c.
     let d = c.before.before.before.before in
-    rw (← d.before.before.proper.ensures, d.before.if1.true, ← d.proper2.ensures, c.before.before.before.if2.true) (search cases))  -- returns-2
-    (λ c. rw (← c.before.before.before.proper.ensures, c.before.before.if1.true, ← c.before.proper2.ensures, c.if2.false))  -- returns-3
-    (λ c. rw (← c.before.proper.ensures, c.if1.false)))  -- returns-4
+    rw (← d.before.before.proper.ensures, d.before.if-proper.true, ← d.proper-then-proper.ensures, c.before.before.before.if-proper-2.true) (search cases))  -- returns-else-a-b
+    (λ c. rw (← c.before.before.before.proper.ensures, c.before.before.if-proper.true, ← c.before.proper-then-proper.ensures, c.if-proper-2.false))  -- returns-else-proper-2
+    (λ c. rw (← c.before.proper.ensures, c.if-proper.false)))  -- returns-else-proper

@@ -25,42 +25,42 @@ unfolding product_number
 product_number_spec =
     tie.close
     (tie.spec
-    (λ c κs. search rules)  -- size-requires
-    (λ c κs. search rules)  -- size-requires-2
-    (λ c κs. search rules)  -- pair-number-requires
+    (λ c κs. search rules)  -- size-s-requires
+    (λ c κs. search rules)  -- size-t-requires
+    (λ c κs. search rules)  -- pair_number-number-requires
     (λ c.
     let d = c.before.before in
-    let pair = sym d.pair-number.ensures ∙ c.before.if1.true in
-    rw (by_sizes _ _ pair d.before.before.size.ensures d.before.size2.ensures, c.if2.true))  -- returns
+    let pair = sym d.pair_number-number.ensures ∙ c.before.if-number-eq0.true in
+    rw (by_sizes _ _ pair d.before.before.size-s.ensures d.before.size-t.ensures, c.if-s-eq0.true))  -- returns-then-s-eq0
     (λ c.
     let d = c.before.before.before in
-    let s = d.before.before.size in
+    let s = d.before.before.size-s in
     rw (
-      by_sizes _ _ (sym d.pair-number.ensures ∙ c.before.before.if1.true) s.ensures d.before.size2.ensures,
-      lt-ltb 0 s.result (omega (arith, c.before.if2.false)),
-      c.if3.true,
-    ))  -- returns-2
-    (λ c. search rules)  -- sub-if4
-    (λ c. search rules)  -- sub-if4-2
-    (λ c. search rules)  -- add-if4
+      by_sizes _ _ (sym d.pair_number-number.ensures ∙ c.before.before.if-number-eq0.true) s.ensures d.before.size-t.ensures,
+      lt-ltb 0 s.result (omega (arith, c.before.if-s-eq0.false)),
+      c.if-t-eq0.true,
+    ))  -- returns-then-t-eq0
+    (λ c. search rules)  -- overflow_sub-s
+    (λ c. search rules)  -- overflow_sub-t
+    (λ c. search rules)  -- overflow_add-s
     (λ c.
     let d = c.before.before.before.before in
-    let s = d.before.before.size in
-    let t = d.before.size2 in
+    let s = d.before.before.size-s in
+    let t = d.before.size-t in
     rw (
-      by_sizes _ _ (sym d.pair-number.ensures ∙ c.before.before.before.if1.true) s.ensures t.ensures,
-      lt-ltb 0 s.result (omega (arith, c.before.before.if2.false)),
-      lt-ltb 0 t.result (omega (arith, c.before.if3.false)),
-      lt-ltb 32 (s.result - 1 + (t.result - 1)) c.if4.true,
-    ))  -- returns-3
+      by_sizes _ _ (sym d.pair_number-number.ensures ∙ c.before.before.before.if-number-eq0.true) s.ensures t.ensures,
+      lt-ltb 0 s.result (omega (arith, c.before.before.if-s-eq0.false)),
+      lt-ltb 0 t.result (omega (arith, c.before.if-t-eq0.false)),
+      lt-ltb 32 (s.result - 1 + (t.result - 1)) c.if-s-t-gt-LIMIT.true,
+    ))  -- returns-then-s-t-gt-LIMIT
     (λ c.
     let d = c.before.before.before.before in
-    let s = d.before.before.size in
-    let t = d.before.size2 in
+    let s = d.before.before.size-s in
+    let t = d.before.size-t in
     rw (
-      by_sizes _ _ (sym d.pair-number.ensures ∙ c.before.before.before.if1.true) s.ensures t.ensures,
-      lt-ltb 0 s.result (omega (arith, c.before.before.if2.false)),
-      lt-ltb 0 t.result (omega (arith, c.before.if3.false)),
-      le-ltb 32 (s.result - 1 + (t.result - 1)) c.if4.false,
-    ))  -- returns-4
-    (λ c. rw (← c.before.pair-number.ensures) (search cases)))  -- returns-5
+      by_sizes _ _ (sym d.pair_number-number.ensures ∙ c.before.before.before.if-number-eq0.true) s.ensures t.ensures,
+      lt-ltb 0 s.result (omega (arith, c.before.before.if-s-eq0.false)),
+      lt-ltb 0 t.result (omega (arith, c.before.if-t-eq0.false)),
+      le-ltb 32 (s.result - 1 + (t.result - 1)) c.if-s-t-gt-LIMIT.false,
+    ))  -- returns-else-s-t-gt-LIMIT
+    (λ c. rw (← c.before.pair_number-number.ensures) (search cases)))  -- returns-else-number-eq0

@@ -15,9 +15,9 @@ proper_spec =
     (tie.spec
     (λ c κs. search rules)  -- taken-requires
     (λ c κs. search rules)  -- square-requires
-    (λ c κs. search rules)  -- all-below-requires
+    (λ c κs. search rules)  -- all_below-requires
     (λ c.
     let long : length c.before.before.before.before.before.args.a.coefs ≡ 33 = search rules in
-    c.all-below.ensures
-    ∙ rw (c.before.square.ensures, ← c.before.before.before.taken.ensures, c.before.before.if1.true, eq-eqb _ _ long) refl)  -- returns
-    (λ c. rw (← c.before.taken.ensures, c.if1.false)))  -- returns-2
+    c.all_below.ensures
+    ∙ rw (c.before.square.ensures, ← c.before.before.before.taken.ensures, c.before.before.if-taken.true, eq-eqb _ _ long) refl)  -- returns-then-taken
+    (λ c. rw (← c.before.taken.ensures, c.if-taken.false)))  -- returns-else-taken

@@ -9,5 +9,5 @@ pub refuse_division_spec : {M : Type 1} → statement M
 refuse_division_spec =
     tie.close
     (tie.spec
-    (λ c κs. search rules)  -- refused-poly-requires
-    (λ c. ap (λ v. record { number = c.before.args.number; place = 0; quotient = v; remainder = v }) c.refused-poly.ensures))  -- returns
+    (λ c κs. search rules)  -- refused_poly-poly-requires
+    (λ c. ap (λ v. record { number = c.before.args.number; place = 0; quotient = v; remainder = v }) c.refused_poly-poly.ensures))  -- returns

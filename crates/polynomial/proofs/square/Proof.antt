@@ -10,5 +10,5 @@ pub square_spec : {M : Type 1} → statement M
 square_spec =
     tie.close
     (tie.spec
-    (λ c. omega (arith, square_width c.args.prime (omega arith)))  -- mul-result
+    (λ c. omega (arith, square_width c.args.prime (omega arith)))  -- overflow_mul-result
     (λ c. search rules))  -- returns

@@ -13,17 +13,17 @@ unfolding difference
 sub_spec =
     tie.close
     (tie.spec
-    (λ c κs. search rules)  -- pair-number-requires
+    (λ c κs. search rules)  -- pair_number-number-requires
     (λ c κs. search rules)  -- square-requires
     (λ c κs.
     let d = c.before.before.before in
-    let pair = pair_accepted _ _ (sym d.before.pair-number.ensures ∙ d.if1.true) in
+    let pair = pair_accepted _ _ (sym d.before.pair_number-number.ensures ∙ d.if-number-eq0.true) in
     rw c.square.ensures (pair.first, pair.second))  -- difference-requires
     (λ c κs. search rules)  -- accept-requires
     (λ c κs. search rules)  -- refuse-requires
     (λ c.
     let d = c.before.before.before.before.before in
     c.accept.ensures
-    ∙ difference_is _ _ (sym d.before.pair-number.ensures ∙ d.if1.true)
-    (rw c.before.before.square.ensures at c.before.difference.ensures))  -- returns
-    (λ c. c.refuse.ensures ∙ (rw (← c.before.before.pair-number.ensures) (result_refused _ c.before.if1.false))))  -- returns-2
+    ∙ difference_is _ _ (sym d.before.pair_number-number.ensures ∙ d.if-number-eq0.true)
+    (rw c.before.before.square.ensures at c.before.difference.ensures))  -- returns-then-number-eq0
+    (λ c. c.refuse.ensures ∙ (rw (← c.before.before.pair_number-number.ensures) (result_refused _ c.before.if-number-eq0.false))))  -- returns-else-number-eq0

@@ -7,22 +7,22 @@ use Rattle.run_length.specs.Marks.{NoneWith}
 use Rattle.run_length.proofs.last_with.Statement.{statement}
 use Rattle.run_length.proofs.last_with.Tie as tie
 
-abbrev invariant-loop : tie.invariant-loop
-invariant-loop marks m e i₀ i = NoneWith marks m e i
+abbrev invariant-loop-i : tie.invariant-loop-i
+invariant-loop-i marks m e i₀ i = NoneWith marks m e i
 
-abbrev decreases-loop : tie.decreases-loop
-decreases-loop marks m e i₀ i = i
+abbrev decreases-loop-i : tie.decreases-loop-i
+decreases-loop-i marks m e i₀ i = i
 
 pub last_with_spec : {M : Type 1} → statement M
 last_with_spec =
     tie.close
-    (tie.spec invariant-loop decreases-loop
-    (λ c. search_none)  -- loop-holds
-    (λ c. search rules)  -- sub-if1
-    (λ c. search rules)  -- mul-if1
-    (λ c. omega (arith, c.before.before.before.requires, c.before.before.loop.invariant.within, c.before.loop-test.true))  -- shared-slice-read-if1
-    (λ c. search_found c.before.before.before.loop.invariant c.if1.true)  -- returns
-    (λ c. search rules)  -- sub-i
-    (λ c. search rules)  -- loop-less
-    (λ c. search_more c.before.before.before.loop.invariant c.if1.false)  -- loop-again
-    (λ c. search_done c.before.loop.invariant (search rules)))  -- returns-2
+    (tie.spec invariant-loop-i decreases-loop-i
+    (λ c. search_none)  -- loop-i-init
+    (λ c. search rules)  -- overflow_sub-i
+    (λ c. search rules)  -- offset_bounds-marks-i
+    (λ c. omega (arith, c.requires, c.loop-i.invariant.within, c.loop-i-test.true))  -- bounds-marks-i
+    (λ c. search_found c.loop-i.invariant c.if-marks-i.true)  -- returns-then-marks-i
+    (λ c. search rules)  -- overflow_sub-i-in-loop-i
+    (λ c. search rules)  -- loop-i-smaller
+    (λ c. search_more c.loop-i.invariant c.if-marks-i.false)  -- loop-i-preserved
+    (λ c. search_done c.loop-i.invariant (search rules)))  -- returns

@@ -10,6 +10,6 @@ unfolding constant pad
 one_spec =
     tie.close
     (tie.spec
-    (λ c. search rules)  -- array-write-coefs
+    (λ c. search rules)  -- bounds-coefs-0
     (λ c κs. search rules)  -- fixed-requires
     (λ c. c.fixed.ensures))  -- returns
