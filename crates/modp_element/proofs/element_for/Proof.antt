@@ -9,6 +9,6 @@ pub element_for_spec : {M : Type 1} → statement M
 element_for_spec =
     tie.close
     (tie.spec
-    (λ c κs. search rules)  -- remainder-requires
-    (λ c κs. search rules)  -- size-requires
-    (λ c. element_left _ c.before.remainder.ensures c.size.ensures))  -- returns
+    (λ c κs. search rules)  -- remainder-r-requires
+    (λ c κs. search rules)  -- size-s-requires
+    (λ c. element_left _ c.remainder-r.ensures c.size-s.ensures))  -- returns

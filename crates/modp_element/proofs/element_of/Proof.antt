@@ -9,6 +9,6 @@ pub element_of_spec : {M : Type 1} → statement M
 element_of_spec =
     tie.close
     (tie.spec
-    (λ c. element_known c.before.before.requires.5 c.if1.true)  -- returns
-    (λ c κs. search rules)  -- splitting-element-requires
-    (λ c. search rules))  -- returns-2
+    (λ c. element_known c.requires.5 c.if-e.true)  -- returns-then-e
+    (λ c κs. search rules)  -- splitting_element-requires
+    (λ c. search rules))  -- returns

@@ -12,34 +12,34 @@ use Rattle.modp_element.specs.Images.{PowerImages, first_power, images_none, ima
 use Rattle.modp_element.proofs.images.Statement.{statement}
 use Rattle.modp_element.proofs.images.Tie as tie
 
-abbrev invariant-loop : tie.invariant-loop
-invariant-loop q d p r₀ y power₀ i₀ r power i = PowerImages p q d i r × Remainder p q d power (x^ p ^ᴿ i) × (i ≤ d)
+abbrev invariant-loop-i : tie.invariant-loop-i
+invariant-loop-i q d p r₀ y power₀ i₀ r power i = PowerImages p q d i r × Remainder p q d power (x^ p ^ᴿ i) × (i ≤ d)
 
-abbrev decreases-loop : tie.decreases-loop
-decreases-loop q d p r₀ y power₀ i₀ r power i = d - i
+abbrev decreases-loop-i : tie.decreases-loop-i
+decreases-loop-i q d p r₀ y power₀ i₀ r power i = d - i
 
 pub images_spec : {M : Type 1} → statement M
 images_spec =
     tie.close
-    (tie.spec invariant-loop decreases-loop
-    (λ c. images_done c.before.requires.1 (omega (arith, c.if1.true)) (images_none (omega (arith, c.before.requires.0))))  -- returns
-    (λ c κs. let pre = c.before.requires in (pre.0, omega (arith, c.if1.false), pre.2, pre.3, pre.4))  -- power-of-x-requires
-    (λ c. (images_none (omega (arith, c.before.before.requires.0)), first_power c.power-of-x.ensures, c.before.before.requires.1))  -- loop-holds
+    (tie.spec invariant-loop-i decreases-loop-i
+    (λ c. images_done c.requires.1 (omega (arith, c.if-d-lt2.true)) (images_none (omega (arith, c.requires.0))))  -- returns-then-d-lt2
+    (λ c κs. let pre = c.requires in (pre.0, omega (arith, c.if-d-lt2.false), pre.2, pre.3, pre.4))  -- power_of_x-y-requires
+    (λ c. (images_none (omega (arith, c.requires.0)), first_power c.power_of_x-y.ensures, c.requires.1))  -- loop-i-init
     (λ c κs.
-    let pre = c.before.before.before.before.requires in
-    (pre.0, omega (arith, pre.2, c.loop-test.true), c.before.loop.invariant.1.reduced))  -- less-power-requires
-    (λ c. search rules)  -- mul-r
-    (λ c. search rules)  -- array-set-from-r
+    let pre = c.requires in
+    (pre.0, omega (arith, pre.2, c.loop-i-test.true), c.loop-i.invariant.1.reduced))  -- less_power-requires
+    (λ c. search rules)  -- offset_bounds-r-i
+    (λ c. search rules)  -- bounds-r-i
     (λ c κs.
-    let pre = c.before.before.before.before.before.requires in
-    let power = c.before.before.loop.invariant.1 in
-    (pre.2, power.reduced, power.small, c.before.before.before.power-of-x.ensures, pre.3, pre.4))  -- next-power-requires
-    (λ c. search rules)  -- add-i
-    (λ c. search rules)  -- loop-less
+    let pre = c.requires in
+    let power = c.loop-i.invariant.1 in
+    (pre.2, power.reduced, power.small, c.power_of_x-y.ensures, pre.3, pre.4))  -- next_power-v-requires
+    (λ c. search rules)  -- overflow_add-i
+    (λ c. search rules)  -- loop-i-smaller
     (λ c.
-    let inv = c.before.before.before.loop.invariant in (
-      images_more c.before.before.loop-test.true (search rules) inv.0 inv.1 c.before.less-power.ensures,
-      power_more _ _ _ _ inv.1 c.next_power.ensures,
+    let inv = c.loop-i.invariant in (
+      images_more c.loop-i-test.true (search rules) inv.0 inv.1 c.less_power.ensures,
+      power_more _ _ _ _ inv.1 c.next_power-v.ensures,
       search rules,
-    ))  -- loop-again
-    (λ c. images_done c.before.loop.invariant.2 c.loop-test.false c.before.loop.invariant.0))  -- returns-2
+    ))  -- loop-i-preserved
+    (λ c. images_done c.loop-i.invariant.2 c.loop-i-test.false c.loop-i.invariant.0))  -- returns

@@ -21,7 +21,7 @@ pub less_one_spec : {M : Type 1} → statement M
 less_one_spec =
     tie.close
     (tie.spec
-    (λ c. search rules)  -- sub-result
-    (λ c. search rules)  -- sub-result-2
-    (λ c. zero_less c.if1.true c.before.requires)  -- returns
-    (λ c. one_less (omega (arith, c.if1.false)) c.before.requires))  -- returns-2
+    (λ c. search rules)  -- overflow_sub-result
+    (λ c. search rules)  -- overflow_sub-result-else-c-eq0
+    (λ c. zero_less c.if-c-eq0.true c.requires)  -- returns-then-c-eq0
+    (λ c. one_less (omega (arith, c.if-c-eq0.false)) c.requires))  -- returns-else-c-eq0

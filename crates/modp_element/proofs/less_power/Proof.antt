@@ -10,11 +10,11 @@ pub less_power_spec : {M : Type 1} → statement M
 less_power_spec =
     tie.close
     (tie.spec
-    (λ c. search rules)  -- mul-less-one
-    (λ c. search rules)  -- array-read-less-one
-    (λ c κs. c.requires.2.low _)  -- less-one-requires
-    (λ c. search rules)  -- mul-m
-    (λ c. search rules)  -- array-write-m
+    (λ c. search rules)  -- offset_bounds-a-i
+    (λ c. search rules)  -- bounds-a-i
+    (λ c κs. c.requires.2.low _)  -- less_one-requires
+    (λ c. search rules)  -- offset_bounds-m-i
+    (λ c. search rules)  -- bounds-m-i
     (λ c.
-    let (large, fits, reduced) = c.before.requires in
+    let (large, fits, reduced) = c.requires in
     less_power _ _ (omega (arith, large)) reduced fits c.less_one.ensures))  -- returns

@@ -9,8 +9,8 @@ pub next_power_spec : {M : Type 1} → statement M
 next_power_spec =
     tie.close
     (tie.spec
-    (λ c. search rules)  -- mul-if1
-    (λ c κs. search rules)  -- times-power-of-x-requires
-    (λ c. search rules)  -- returns
-    (λ c κs. search rules)  -- product-modulo-requires
-    (λ c. multiplied_power _ c.before.before.requires.3 c.product-modulo.ensures))  -- returns-2
+    (λ c. search rules)  -- overflow_mul-d
+    (λ c κs. search rules)  -- times_power_of_x-requires
+    (λ c. search rules)  -- returns-then-p-d
+    (λ c κs. search rules)  -- product_modulo-requires
+    (λ c. multiplied_power _ c.requires.3 c.product_modulo.ensures))  -- returns

@@ -10,11 +10,11 @@ pub splitting_element_spec : {M : Type 1} → statement M
 splitting_element_spec =
     tie.close
     (tie.spec
-    (λ c κs. search rules)  -- images-requires
-    (λ c. search rules)  -- slice-aggregate-least-dependency
+    (λ c κs. search rules)  -- images-t-requires
+    (λ c. search rules)  -- slice_bounds-least_dependency-end
     (λ c κs.
-    let pre = c.before.before.requires in
-    (pre.0, pre.1, search rules, search rules, images_given c.before.images.ensures (search rules)))  -- least-dependency-requires
+    let pre = c.requires in
+    (pre.0, pre.1, search rules, search rules, images_given c.images-t.ensures (search rules)))  -- least_dependency-requires
     (λ c.
-    let pre = c.before.before.before.requires in
-    element_found pre.0 pre.3 c.before.before.images.ensures c.least-dependency.ensures))  -- returns
+    let pre = c.requires in
+    element_found pre.0 pre.3 c.images-t.ensures c.least_dependency.ensures))  -- returns

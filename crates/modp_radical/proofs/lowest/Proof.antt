@@ -12,24 +12,24 @@ pub lowest_spec : {M : Type 1} → statement M
 lowest_spec =
     tie.close
     (tie.spec
-    (λ c. let h = c.before.requires in divisor_whole h.1 h.2)  -- returns
-    (λ c. let h = c.before.before.requires in divisor_whole h.1 h.2)  -- returns-2
-    (λ c κs. search rules)  -- divide-out-requires
-    (λ c. search rules)  -- add-remainder
+    (λ c. let h = c.requires in divisor_whole h.1 h.2)  -- returns-then-e-lt4
+    (λ c. let h = c.requires in divisor_whole h.1 h.2)  -- returns-then-k-eq0
+    (λ c κs. search rules)  -- divide_out-t-requires
+    (λ c. search rules)  -- overflow_add-t
     (λ c κs.
-    let h = c.before.before.before.before.before.requires in
-    let D = c.before.before.divide-out.ensures in
-    (D.reduced, h.2.reduced, omega (arith, D.degrees, h.3.fits), h.2.fits, rw add-one D.monic.below, h.2.monic))  -- remainder-requires
-    (λ c κs. search rules)  -- common-divisor-requires
-    (λ c. search rules)  -- add-divide
+    let h = c.requires in
+    let D = c.divide_out-t.ensures in
+    (D.reduced, h.2.reduced, omega (arith, D.degrees, h.3.fits), h.2.fits, rw add-one D.monic.below, h.2.monic))  -- remainder-m-requires
+    (λ c κs. search rules)  -- common_divisor-g-requires
+    (λ c. search rules)  -- overflow_add-e
     (λ c κs.
-    let h = c.before.before.before.before.before.before.before.before.requires in
-    let g = c.before.common-divisor.ensures in
-    (h.2.reduced, g.reduced, omega (arith, h.2.fits), omega (arith, h.2.fits, g.limit), rw add-one h.2.monic.below, g.monic))  -- divide-requires
-    (λ c. search rules)  -- sub-r
+    let h = c.requires in
+    let g = c.common_divisor-g.ensures in
+    (h.2.reduced, g.reduced, omega (arith, h.2.fits), omega (arith, h.2.fits, g.limit), rw add-one h.2.monic.below, g.monic))  -- divide-v-requires
+    (λ c. search rules)  -- overflow_sub-r
     (λ c.
-    let e = c.before.before.before.before in
+    let e = c.before in
     let h = e.before.before.before.before.before.before.before.requires in
-    let R = e.before.remainder.ensures in
-    quotient_divisor e.common-divisor.ensures c.before.before.divide.ensures h.0 h.2.monic R.small
-    (remainder_nonzero _ R e.before.before.before.before.divide-out.ensures.stops)))  -- returns-3
+    let R = e.before.remainder-m.ensures in
+    quotient_divisor e.common_divisor-g.ensures c.divide-v.ensures h.0 h.2.monic R.small
+    (remainder_nonzero _ R e.before.before.before.before.divide_out-t.ensures.stops)))  -- returns

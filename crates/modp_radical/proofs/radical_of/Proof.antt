@@ -13,42 +13,42 @@ pub radical_of_spec : {M : Type 1} → statement M
 radical_of_spec =
     tie.close
     (tie.spec
-    (λ c κs. (c.requires.1, c.requires.3, c.requires.4, c.requires.5.below))  -- derivative-requires
-    (λ c. search rules)  -- slice-aggregate-size-below
+    (λ c κs. (c.requires.1, c.requires.3, c.requires.4, c.requires.5.below))  -- derivative-v-requires
+    (λ c. search rules)  -- slice_bounds-size_below-end
     (λ c κs.
-    let h = c.before.before.requires in
-    let D = c.before.derivative.ensures in
-    (omega (arith, h.3), omega (arith, h.3, D.reduced.len), zero_above D.reduced (derivative_terms _ D h.5)))  -- size-below-requires
+    let h = c.requires in
+    let D = c.derivative-v.ensures in
+    (omega (arith, h.3), omega (arith, h.3, D.reduced.len), zero_above D.reduced (derivative_terms _ D h.5)))  -- size_below-requires
     (λ c κs.
-    let h = c.before.before.before.before.requires in (
+    let h = c.requires in (
       h.0,
       h.3,
       h.4,
       h.5.below,
-      derivative_zero _ c.before.before.before.derivative.ensures c.before.size_below.ensures c.if1.true,
-    ))  -- root-requires
-    (λ c. omega (arith, prime_pos c.before.before.before.before.before.requires.0))  -- div-t16
+      derivative_zero _ c.derivative-v.ensures c.size_below.ensures c.if-size_below-eq0.true,
+    ))  -- root-h-requires
+    (λ c. omega (arith, prime_pos c.requires.0))  -- nonzero_div-result
     (λ c.
-    let h = c.before.before.before.before.before.requires in
-    let r = c.root.ensures in
-    radical_root h.0 h.2 _ h.5 c.before.before.before.before.derivative.ensures c.before.before.size_below.ensures
-    c.before.if1.true r.0 r.1)  -- returns
+    let h = c.requires in
+    let r = c.root-h.ensures in
+    radical_root h.0 h.2 _ h.5 c.derivative-v.ensures c.size_below.ensures
+    c.if-size_below-eq0.true r.0 r.1)  -- returns-then-size_below-eq0
     (λ c κs.
-    let h = c.before.before.before.before.requires in
-    let D = c.before.before.before.derivative.ensures in
-    (h.0, h.3, D.reduced, h.4, derivative_terms _ D h.5, h.5))  -- common-divisor-requires
-    (λ c. search rules)  -- add-divide
+    let h = c.requires in
+    let D = c.derivative-v.ensures in
+    (h.0, h.3, D.reduced, h.4, derivative_terms _ D h.5, h.5))  -- common_divisor-g-requires
+    (λ c. search rules)  -- overflow_add-n
     (λ c κs.
-    let h = c.before.before.before.before.before.before.requires in
-    let g = c.before.common-divisor.ensures in
-    (h.4, g.reduced, omega (arith, h.3), omega (arith, h.3, g.limit), rw add-one h.5.below, g.monic))  -- divide-requires
-    (λ c. search rules)  -- sub-lowest
+    let h = c.requires in
+    let g = c.common_divisor-g.ensures in
+    (h.4, g.reduced, omega (arith, h.3), omega (arith, h.3, g.limit), rw add-one h.5.below, g.monic))  -- divide-t-requires
+    (λ c. search rules)  -- overflow_sub-n
     (λ c κs.
-    let h = c.before.before.before.before.before.before.before.before.before.requires in
-    let D = c.before.before.before.before.before.before.before.before.derivative.ensures in
-    let size = c.before.before.before.before.before.before.size_below.ensures in
-    let g = c.before.before.before.before.common-divisor.ensures in
-    let Q = derivative_quotient h.0 h.2 _ h.5 D size c.before.before.before.before.before.if1.false g c.before.before.divide.ensures in (
+    let h = c.requires in
+    let D = c.derivative-v.ensures in
+    let size = c.size_below.ensures in
+    let g = c.common_divisor-g.ensures in
+    let Q = derivative_quotient h.0 h.2 _ h.5 D size c.if-size_below-eq0.false g c.divide-t.ensures in (
       h.0,
       Q.positive,
       record { fits = omega (arith, h.3); reduced = Q.reduced; monic = Q.monic },
@@ -57,7 +57,7 @@ radical_of_spec =
     (λ c.
     let e = c.before in
     let h = e.before.before.before.before.before.before.before.before.before.requires in
-    let D = e.before.before.before.before.before.before.before.before.derivative.ensures in
+    let D = e.before.before.before.before.before.before.before.before.derivative-v.ensures in
     let size = e.before.before.before.before.before.before.size_below.ensures in
-    radical_quotient h.0 h.2 _ h.5 D size e.before.before.before.before.before.if1.false
-    e.before.before.before.before.common-divisor.ensures e.before.before.divide.ensures c.lowest.ensures))  -- returns-2
+    radical_quotient h.0 h.2 _ h.5 D size e.before.before.before.before.before.if-size_below-eq0.false
+    e.before.before.before.before.common_divisor-g.ensures e.before.before.divide-t.ensures c.lowest.ensures))  -- returns

@@ -12,30 +12,30 @@ use Rattle.modp_radical.proofs.DerivedArrays.{Stored, root_entry, root_stored}
 use Rattle.modp_radical.proofs.root.Statement.{statement}
 use Rattle.modp_radical.proofs.root.Tie as tie
 
-abbrev invariant-loop : tie.invariant-loop
-invariant-loop d p a step r₀ i₀ k₀ r i k = Stored (root_entry p a) r i × (k ≡ i * p) × (i ≤ k)
+abbrev invariant-loop-k : tie.invariant-loop-k
+invariant-loop-k d p a step r₀ i₀ k₀ r i k = Stored (root_entry p a) r i × (k ≡ i * p) × (i ≤ k)
 
-abbrev decreases-loop : tie.decreases-loop
-decreases-loop d p a step r₀ i₀ k₀ r i k = 33 - k
+abbrev decreases-loop-k : tie.decreases-loop-k
+decreases-loop-k d p a step r₀ i₀ k₀ r i k = 33 - k
 
 pub root_spec : {M : Type 1} → statement M
 root_spec =
     tie.close
-    (tie.spec invariant-loop decreases-loop
-    (λ c. (replaced_none, sym (zero-mul c.args.p), le_refl 0))  -- loop-holds
-    (λ c. search rules)  -- mul-r
-    (λ c. search rules)  -- array-read-r
-    (λ c. search rules)  -- mul-r-2
-    (λ c. search rules)  -- array-write-r
-    (λ c. search rules)  -- add-i
-    (λ c. search rules)  -- add-k
-    (λ c. omega (arith, prime_pos c.before.before.requires.0))  -- loop-less
+    (tie.spec invariant-loop-k decreases-loop-k
+    (λ c. (replaced_none, sym (zero-mul c.args.p), le_refl 0))  -- loop-k-init
+    (λ c. search rules)  -- offset_bounds-a-k
+    (λ c. search rules)  -- bounds-a-k
+    (λ c. search rules)  -- offset_bounds-r-i
+    (λ c. search rules)  -- bounds-r-i
+    (λ c. search rules)  -- overflow_add-i
+    (λ c. search rules)  -- overflow_add-k
+    (λ c. omega (arith, prime_pos c.requires.0))  -- loop-k-smaller
     (λ c.
-    let h = c.before.loop.invariant in (
-      replaced_more h.0 (omega arith) (ap (λ k. get_or c.before.before.args.t1 k 0) h.1),
+    let h = c.loop-k.invariant in (
+      replaced_more h.0 (omega arith) (ap (λ k. get_or c.args.a k 0) h.1),
       omega (arith, h.1),
-      omega (arith, h.2, prime_pos c.before.before.requires.0),
-    ))  -- loop-again
+      omega (arith, h.2, prime_pos c.requires.0),
+    ))  -- loop-k-preserved
     (λ c.
-    let h = c.before.before.requires in
-    root_stored _ h.0 h.2 h.3 h.4 (omega (arith, c.before.loop.invariant.1)) c.before.loop.invariant.0))  -- returns
+    let h = c.requires in
+    root_stored _ h.0 h.2 h.3 h.4 (omega (arith, c.loop-k.invariant.1)) c.loop-k.invariant.0))  -- returns

@@ -28,35 +28,35 @@ pub +power_spec : {M : Type 1} → statement M
 +power_spec =
     close μ_power
     (λ t. power-lts.spec (power_under t, power.Post, product.Asked, product.Learnt) (power_at t) power.Post
-    (λ c. power_one _ _ _ c.if1.true c.before.requires.1.3)  -- returns
+    (λ c. power_one _ _ _ c.if-k-eq1.true c.requires.1.3)  -- returns
     (λ c κs.
-    let (measure, pre) = c.before.requires in
-    let (less, half) = halved c.before.args.k (omega (arith, pre.0)) c.if1.false in
+    let (measure, pre) = c.requires in
+    let (less, half) = halved c.args.k (omega (arith, pre.0)) c.if-k-eq1.false in
     (omega (arith, measure, less), (omega (arith, half), (half_room _ _ pre.0 pre.1).1, pre.2, pre.3)))  -- power-requires
-    (λ c. let pre = c.before.before.requires.1 in omega (arith, half_room _ _ pre.0 pre.1))  -- mul-e
-    (λ c. let pre = c.before.before.requires.1 in omega (arith, half_room _ _ pre.0 pre.1))  -- add-product
-    (λ c. let pre = c.before.before.requires.1 in omega (arith, half_room _ _ pre.0 pre.1))  -- add-product-2
+    (λ c. let pre = c.requires.1 in omega (arith, half_room _ _ pre.0 pre.1))  -- mul-e
+    (λ c. let pre = c.requires.1 in omega (arith, half_room _ _ pre.0 pre.1))  -- add-product
+    (λ c. let pre = c.requires.1 in omega (arith, half_room _ _ pre.0 pre.1))  -- add-product-2
     (λ c κs.
-    let pre = c.before.before.requires.1 in
-    let h = c.power.ensures in
+    let pre = c.requires.1 in
+    let h = c.power-h.ensures in
     let (one, half, twice, odd) = half_room _ _ pre.0 pre.1 in
     let below = power_below _ _ _ pre.2 h in
     (h.reduced, h.reduced, omega (arith, half), omega (arith, twice), below, below))  -- product-requires
-    (λ c. let s = c.before in power_even _ _ _ s.before.power.ensures s.product.ensures c.if2.true)  -- returns-2
-    (λ c. let pre = c.before.before.before.before.requires.1 in omega (arith, (half_room _ _ pre.0 pre.1).0))  -- add-product-3
-    (λ c. let pre = c.before.before.before.before.requires.1 in omega (arith, (half_room _ _ pre.0 pre.1).2))  -- mul-product
-    (λ c. let pre = c.before.before.before.before.requires.1 in omega (arith, (half_room _ _ pre.0 pre.1).2))  -- add-product-4
+    (λ c. let s = c.before in power_even _ _ _ s.before.power-h.ensures s.product-s.ensures c.if-k-eq0.true)  -- returns-2
+    (λ c. let pre = c.requires.1 in omega (arith, (half_room _ _ pre.0 pre.1).0))  -- add-product-3
+    (λ c. let pre = c.requires.1 in omega (arith, (half_room _ _ pre.0 pre.1).2))  -- mul-product
+    (λ c. let pre = c.requires.1 in omega (arith, (half_room _ _ pre.0 pre.1).2))  -- add-product-4
     (λ c κs.
-    let pre = c.before.before.before.before.requires.1 in
-    let s = c.before.product.ensures in
+    let pre = c.requires.1 in
+    let s = c.product-s.ensures in
     let (one, half, twice, odd) = half_room _ _ pre.0 pre.1 in (
       pre.3,
       s.reduced,
       omega (arith, one),
-      omega (arith, odd c.if2.false),
+      omega (arith, odd c.if-k-eq0.false),
       rw add-one pre.2.below,
-      square_below _ _ _ c.before.before.power.ensures s pre.2,
+      square_below _ _ _ c.power-h.ensures s pre.2,
     ))  -- product-requires-2
     (λ c.
-    let s = c.before.before in
-    power_odd _ _ _ s.before.power.ensures s.product.ensures c.before.if2.false c.product2.ensures))  -- returns-3
+    let s = c.before in
+    power_odd _ _ _ s.before.power-h.ensures s.product-s.ensures c.if-k-eq0.false c.product.ensures))  -- returns-3

@@ -13,17 +13,17 @@ pub divided_by_exponent_spec : {M : Type 1} → statement M
 divided_by_exponent_spec =
     tie.close
     (tie.spec
-    (λ c κs. omega (arith, large c.requires.0.given))  -- reduce-requires
+    (λ c κs. omega (arith, large c.requires.0.given))  -- reduce-a-requires
     (λ c κs.
-    let (W, unit, low) = c.before.requires in
-    let (is, less) = c.reduce.ensures in
-    (is_prime_lem W.given.prime, rw is (pos_of_ne-zero unit), less))  -- inverse-requires
+    let (W, unit, low) = c.requires in
+    let (is, less) = c.reduce-a.ensures in
+    (is_prime_lem W.given.prime, rw is (pos_of_ne-zero unit), less))  -- inverse-c-requires
     (λ c κs.
-    let (W, unit, low) = c.before.before.requires in
-    (omega (arith, c.inverse.ensures.0), omega (arith, degree_room W.given), W.are.is.reduced, low))  -- multiple-requires
+    let (W, unit, low) = c.requires in
+    (omega (arith, c.inverse-c.ensures.0), omega (arith, degree_room W.given), W.are.is.reduced, low))  -- multiple-requires
     (λ c any.
-    let (W, unit, low) = c.before.before.before.requires in
-    let (below, one) = c.before.inverse.ensures in
-    let is = c.before.before.reduce.ensures.0 in
+    let (W, unit, low) = c.requires in
+    let (below, one) = c.inverse-c.ensures in
+    let is = c.reduce-a.ensures.0 in
     is_u any.given any.chosen any.are unit low
     (divided_by _ _ _ (large W.given) below (rw (sym is) one) _ c.multiple.ensures)))  -- returns

@@ -11,10 +11,10 @@ pub h_bar_spec : {M : Type 1} → statement M
 h_bar_spec =
     tie.close
     (tie.spec
-    (λ c. omega (arith, square_small _ c.requires.given.prime))  -- mul-n
-    (λ c κs. (c.requires.given.part_held.reduced, c.requires.is.reduced))  -- difference-requires
-    (λ c κs. omega (arith, large c.before.requires.given))  -- over-requires
+    (λ c. omega (arith, square_small _ c.requires.given.prime))  -- overflow_mul-n
+    (λ c κs. (c.requires.given.part_held.reduced, c.requires.is.reduced))  -- difference-e-requires
+    (λ c κs. omega (arith, large c.requires.given))  -- over-requires
     (λ c P.
     is_h_bar P.given P.chosen
     (rw c.over.ensures
-    (h_bar_lem (large P.given) _ _ _ _ (g_is_monic P.given P.chosen) P.given.part_held P.is c.before.difference.ensures))))  -- returns
+    (h_bar_lem (large P.given) _ _ _ _ (g_is_monic P.given P.chosen) P.given.part_held P.is c.difference-e.ensures))))  -- returns

@@ -11,10 +11,10 @@ pub last_factor_spec : {M : Type 1} → statement M
 last_factor_spec =
     tie.close
     (tie.spec
-    (λ c. omega (arith, square_small _ c.requires.0))  -- mul-power
-    (λ c κs. (c.requires.1, c.requires.2, c.requires.3, c.requires.6))  -- power-requires
-    (λ c. search rules)  -- mul-lifted
+    (λ c. omega (arith, square_small _ c.requires.0))  -- overflow_mul-p
+    (λ c κs. (c.requires.1, c.requires.2, c.requires.3, c.requires.6))  -- power-q-requires
+    (λ c. search rules)  -- overflow_mul-k
     (λ c κs.
-    let pre = c.before.requires in
-    (pre.0, omega (arith, pre.2), c.power.ensures.reduced, pre.4, pre.5))  -- lifted-requires
-    (λ c. lift_power _ (is_prime_lem c.before.before.requires.0).large _ _ _ c.before.power.ensures c.lifted.ensures))  -- returns
+    let pre = c.requires in
+    (pre.0, omega (arith, pre.2), c.power-q.ensures.reduced, pre.4, pre.5))  -- lifted-requires
+    (λ c. lift_power _ (is_prime_lem c.requires.0).large _ _ _ c.power-q.ensures c.lifted.ensures))  -- returns

@@ -13,6 +13,6 @@ pub lifted_spec : {M : Type 1} → statement M
 lifted_spec =
     tie.close
     (tie.spec
-    (λ c. omega (arith, square_small _ c.requires.0))  -- mul-add-multiple
-    (λ c κs. let pre = c.requires in (square_least _, pre.2, reduced_square pre.3, below_modulo _ pre.3 pre.4, search rules))  -- add-multiple-requires
-    (λ c. lift_represented _ (is_prime_lem c.before.requires.0).large _ _ c.add-multiple.ensures))  -- returns
+    (λ c. omega (arith, square_small _ c.requires.0))  -- overflow_mul-p
+    (λ c κs. let pre = c.requires in (square_least _, pre.2, reduced_square pre.3, below_modulo _ pre.3 pre.4, search rules))  -- add_multiple-requires
+    (λ c. lift_represented _ (is_prime_lem c.requires.0).large _ _ c.add_multiple.ensures))  -- returns
