@@ -89,10 +89,26 @@ module _ {A : Type 0} {r : Reader A} {Good : A → Type 0} {m l : ℕ} (b : Boun
 
   -- ---- a judged value
 
+  judged_decides : (k : ℕ) (good : A → Bool) (at n : ℕ) (bytes : List ℕ) → l < n
+      → judged k good r at (take n bytes) ≡ cut (at + n) (judged k good r at bytes)
+  unfolding judged
+  judged_decides k good at n bytes i = rw (b.decides at n bytes i) (cuts (r at bytes))
+    where
+      chosen : (a : A) (after : ℕ) (rest : List ℕ) (t : Bool)
+          → cond t (got a after (take (at + n - after) rest)) (stop k at) ≡ cut (at + n) (cond t (got a after rest) (stop k at))
+      chosen a after rest true = refl
+      chosen a after rest false = refl
+
+      cuts : (x : Read A)
+          → (go_on (cut (at + n) x) λ a after rest. cond (good a) (got a after rest) (stop k at))
+          ≡ cut (at + n) (go_on x λ a after rest. cond (good a) (got a after rest) (stop k at))
+      cuts (got a after rest) = unfold go_on in chosen a after rest (good a)
+      cuts (stop j place) = unfold go_on in refl
+
   pub bounded_judged : (k : ℕ) (good : A → Bool) → Numbered k → Bounded (judged k good r) (λ a. T (good a)) m l
   bounded_judged k good h = record {
     within = λ at bytes. unfold judged in inside at (length bytes) (r at bytes) (b.within at bytes);
-    decides = λ at n bytes l. unfold judged in rw (b.decides at n bytes l) (cuts at n (r at bytes));
+    decides = judged_decides k good;
   }
     where
       inside : (at long : ℕ) (x : Read A) → Within Good m l at long x
@@ -100,16 +116,6 @@ module _ {A : Type 0} {r : Reader A} {Good : A → Type 0} {m l : ℕ} (b : Boun
       inside at long (got a after rest) (g, u, v, e) =
           unfold go_on in picked (Within (λ a. T (good a)) m l at long) (good a) (λ t. (t, u, v, e)) (λ t. (h, omega arith, omega arith))
       inside at long (stop j place) w = unfold go_on in w
-
-      cuts : (at n : ℕ) (x : Read A)
-          → (go_on (cut (at + n) x) λ a after rest. cond (good a) (got a after rest) (stop k at))
-          ≡ cut (at + n) (go_on x λ a after rest. cond (good a) (got a after rest) (stop k at))
-      cuts at n (got a after rest) = unfold go_on in chosen (good a)
-        where
-          chosen : (t : Bool) → cond t (got a after (take (at + n - after) rest)) (stop k at) ≡ cut (at + n) (cond t (got a after rest) (stop k at))
-          chosen true = refl
-          chosen false = refl
-      cuts at n (stop j place) = unfold go_on in refl
 
 -- ---- one reader, then another
 

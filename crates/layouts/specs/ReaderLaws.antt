@@ -104,8 +104,11 @@ pub record Exact {A : Type 0} (r : Reader A) (Good : A → Type 0) (written : A 
 
 -- any byte
 pub byte_exact : Exact byte (λ b. Unit {0}) (λ b. b ∷ [])
-byte_exact = record { sound = sound; complete = λ at a rest g. unfold byte in ap (λ (k : ℕ). got a k rest) (let e : suc at ≡ at + 1 = omega arith in e) }
+byte_exact = record { sound = sound; complete = complete }
   where
+    complete : (at a : ℕ) (rest : List ℕ) → Unit {0} → byte at (a ∷ rest) ≡ got a (at + 1) rest
+    complete at a rest g = unfold byte in ap (λ (k : ℕ). got a k rest) (let e : suc at ≡ at + 1 = omega arith in e)
+
     sound : (at : ℕ) (bytes : List ℕ) → Holds (Stands (λ b. Unit {0}) (λ b. b ∷ []) bytes) (byte at bytes)
     sound at [] = unfold byte in tt
     sound at (b ∷ bytes) = unfold byte in (tt, refl)
@@ -114,9 +117,13 @@ module _ {A : Type 0} {r : Reader A} {Good : A → Type 0} {written : A → List
   pub judged_exact : (k : ℕ) (good : A → Bool) → Exact (judged k good r) (λ a. Good a × T (good a)) written
   judged_exact k good = record {
     sound = λ at bytes. unfold judged in go at bytes (r at bytes) (x.sound at bytes);
-    complete = λ at a rest (g, t). unfold judged go_on in rw (x.complete at a rest g, passes (good a) t) refl;
+    complete = complete;
   }
     where
+      complete : (at : ℕ) (a : A) (rest : List ℕ) → Good a × T (good a)
+          → judged k good r at (written a ++ rest) ≡ got a (at + length (written a)) rest
+      complete at a rest (g, t) = unfold judged go_on in rw (x.complete at a rest g, passes (good a) t) refl
+
       go : (at : ℕ) (bytes : List ℕ) (y : Read A) → Holds (Stands Good written bytes) y
           → Holds (Stands (λ a. Good a × T (good a)) written bytes) (go_on y λ a after rest. cond (good a) (got a after rest) (stop k at))
       go at bytes (got a after rest) (g, e) =

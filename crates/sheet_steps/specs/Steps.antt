@@ -217,6 +217,11 @@ pub record PastCommand (code : ℕ) (sheet : List ℕ) (at next : ℕ) (t : Step
   pub answer : (r : Reader ℕ) {limit : ℕ} {s : Step} → StepOf r limit sheet 0 next s → StepOf (with_operand code r) limit sheet 0 at s
   pub operand : StepOf byte 256 sheet 0 next t
 
+-- the command is taken, and the byte after it is read
+pub past_command : {code v next : ℕ} {sheet : List ℕ} {at : ℕ} {s t : Step} → StepOf (command_byte code) 256 sheet 0 at s → s ≡ Taken v next
+    → StepOf byte 256 sheet 0 next t → PastCommand code sheet at next t
+past_command {code} w e o = record { answer = λ r. with_operand_lem code r w e; operand = o }
+
 -- the command with its judged operand
 module _ {code : ℕ} {sheet : List ℕ} {at next : ℕ} {t : Step} (w : PastCommand code sheet at next t) (k : ℕ) (good : ℕ → Bool) where
   abbrev Answer : ℕ → Step → Type 0

@@ -9,7 +9,7 @@ pub put_spec : {M : Type 1} → statement M
 put_spec =
     tie.close
     (tie.spec
-    (λ c. search rules)  -- slice-write-out
-    (λ c. search rules)  -- add-result
-    (λ c. search rules)  -- same-length
+    (λ c. search rules)  -- bounds-out-at
+    (λ c. search rules)  -- overflow_add-result
+    (λ c. search rules)  -- shape_of-out
     (λ c. wrote_one _ _ _ (search rules)))  -- returns

@@ -9,7 +9,7 @@ pub put_three_spec : {M : Type 1} → statement M
 put_three_spec =
     tie.close
     (tie.spec
-    (λ c κs. search rules)  -- put-requires
-    (λ c κs. search rules)  -- put-two-requires
-    (λ c. search rules)  -- same-length
-    (λ c. wrote_more c.before.before.before.before.before.before.put.ensures c.before.before.put_two.ensures))  -- returns
+    (λ c κs. search rules)  -- put-second-requires
+    (λ c κs. search rules)  -- put_two-requires
+    (λ c. search rules)  -- shape_of-out
+    (λ c. wrote_more c.before.before.before.before.before.before.put-second.ensures c.before.before.put_two.ensures))  -- returns

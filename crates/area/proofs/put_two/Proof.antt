@@ -9,7 +9,7 @@ pub put_two_spec : {M : Type 1} → statement M
 put_two_spec =
     tie.close
     (tie.spec
+    (λ c κs. search rules)  -- put-second-requires
     (λ c κs. search rules)  -- put-requires
-    (λ c κs. search rules)  -- put-requires-2
-    (λ c. search rules)  -- same-length
-    (λ c. wrote_more c.before.before.before.before.before.before.put.ensures c.before.before.put2.ensures))  -- returns
+    (λ c. search rules)  -- shape_of-out
+    (λ c. wrote_more c.before.before.before.before.before.before.put-second.ensures c.before.before.put.ensures))  -- returns

@@ -11,25 +11,25 @@ pub candidates_spec : {M : Type 1} → statement M
 candidates_spec =
     tie.close
     (tie.spec
-    (λ c. all_candidates _ _ _)  -- returns
-    (λ c κs. search rules)  -- vanishing-requires
-    (λ c. let found = c.before.before.before.vanishing.ensures c.before.before.if2.true in omega (arith, found.fits))  -- add-values
+    (λ c. all_candidates _ _ _)  -- returns-then-p-lt-FEW_VALUES_FROM
+    (λ c κs. search rules)  -- vanishing-m-requires
+    (λ c. let found = c.vanishing-m.ensures c.if-m.true in omega (arith, found.fits))  -- overflow_add-m
     (λ c κs.
-    let found = c.before.before.before.vanishing.ensures c.before.before.if2.true in
-    let S = c.before.before.before.before.before.requires in
+    let found = c.vanishing-m.ensures c.if-m.true in
+    let S = c.requires in
     (S.prime, S.byte, omega (arith, found.fits), found.reduced, rw add-one found.below))  -- values-requires
     (λ c.
-    let found = c.before.before.before.before.vanishing.ensures c.before.before.before.if2.true in
-    value_candidates c.before.before.before.before.before.before.requires.prime found c.values.ensures)  -- returns-2
-    (λ c. search rules)  -- add-vanishing
-    (λ c κs. search rules)  -- vanishing-requires-2
-    (λ c. let found = c.before.before.before.vanishing2.ensures c.before.before.if3.true in omega (arith, found.fits))  -- add-values-2
+    let found = c.vanishing-m.ensures c.if-m.true in
+    value_candidates c.requires.prime found c.values.ensures)  -- returns-then-m
+    (λ c. search rules)  -- overflow_add-d
+    (λ c κs. search rules)  -- vanishing-l-requires
+    (λ c. let found = c.vanishing-l.ensures c.if-l.true in omega (arith, found.fits))  -- overflow_add-l
     (λ c κs.
-    let found = c.before.before.before.vanishing2.ensures c.before.before.if3.true in
-    let S = c.before.before.before.before.before.before.before.requires in
-    (S.prime, S.byte, omega (arith, found.fits), found.reduced, rw add-one found.below))  -- values-requires-2
+    let found = c.vanishing-l.ensures c.if-l.true in
+    let S = c.requires in
+    (S.prime, S.byte, omega (arith, found.fits), found.reduced, rw add-one found.below))  -- values-requires-then-l
     (λ c.
-    let found = c.before.before.before.before.vanishing2.ensures c.before.before.before.if3.true in
-    let S = c.before.before.before.before.before.before.before.before.requires in
-    value_candidates S.prime found c.values2.ensures)  -- returns-3
-    (λ c. all_candidates _ _ _))  -- returns-4
+    let found = c.vanishing-l.ensures c.if-l.true in
+    let S = c.requires in
+    value_candidates S.prime found c.values-then-l.ensures)  -- returns-then-l
+    (λ c. all_candidates _ _ _))  -- returns

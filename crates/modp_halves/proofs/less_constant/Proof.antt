@@ -11,7 +11,7 @@ pub less_constant_spec : {M : Type 1} → statement M
 less_constant_spec =
     tie.close
     (tie.spec
-    (λ c. search rules)  -- array-write-unit
-    (λ c. search rules)  -- sub-add-multiple
-    (λ c κs. (search rules, c.requires.0, (unit _ c.requires.2).reduced, below_unit _ 32, search rules))  -- add-multiple-requires
-    (λ c. less_constant _ _ _ _ (omega (arith, c.before.requires.0.low 0)) c.before.requires.1 c.add-multiple.ensures))  -- returns
+    (λ c. search rules)  -- bounds-unit-0
+    (λ c. search rules)  -- overflow_sub-p
+    (λ c κs. (search rules, c.requires.0, (unit _ c.requires.2).reduced, below_unit _ 32, search rules))  -- add_multiple-requires
+    (λ c. less_constant _ _ _ _ (omega (arith, c.requires.0.low 0)) c.requires.1 c.add_multiple.ensures))  -- returns

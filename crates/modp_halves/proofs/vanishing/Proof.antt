@@ -10,11 +10,11 @@ pub vanishing_spec : {M : Type 1} → statement M
 vanishing_spec =
     tie.close
     (tie.spec
-    (λ c κs. search rules)  -- powers-requires
-    (λ c. search rules)  -- slice-aggregate-least-dependency
+    (λ c κs. search rules)  -- powers-t-requires
+    (λ c. search rules)  -- slice_bounds-least_dependency-end
     (λ c κs.
-    let pre = c.before.before.requires in
-    (pre.0.prime, search rules, pre.2, search rules, images_given c.before.powers.ensures pre.2))  -- least-dependency-requires
+    let pre = c.requires in
+    (pre.0.prime, search rules, pre.2, search rules, images_given c.powers-t.ensures pre.2))  -- least_dependency-requires
     (λ c.
-    let pre = c.before.before.before.requires in
-    vanishing_found pre.0.monic pre.2 c.before.before.powers.ensures c.least-dependency.ensures))  -- returns
+    let pre = c.requires in
+    vanishing_found pre.0.monic pre.2 c.powers-t.ensures c.least_dependency.ensures))  -- returns

@@ -13,31 +13,31 @@ cofactor_spec =
     tie.close
     (tie.spec
     (λ c κs.
-    let (C, t, small, _) = c.before.requires in
-    (omega (arith, C.fits), t, C.first, C.second, small, rw add-one C.monic_first.below, C.monic_second))  -- product-quotient-requires
-    (λ c. search rules)  -- returns
-    (λ c. search rules)  -- sub-product-quotient
+    let (C, t, small, _) = c.requires in
+    (omega (arith, C.fits), t, C.first, C.second, small, rw add-one C.monic_first.below, C.monic_second))  -- product_quotient-requires
+    (λ c. search rules)  -- returns-then-i-n
+    (λ c. search rules)  -- overflow_sub-n
     (λ c κs.
-    let (C, t, small, D) = c.before.requires in (
-      omega (arith, C.fits, c.if1.false),
+    let (C, t, small, D) = c.requires in (
+      omega (arith, C.fits, c.if-i-n.false),
       t,
       D.remainder,
       C.second,
       small,
       below_up (omega arith) D.small,
       C.monic_second,
-    ))  -- product-quotient-requires-2
-    (λ c. search rules)  -- add-product
+    ))  -- product_quotient-x-requires
+    (λ c. search rules)  -- overflow_add-i
     (λ c κs.
-    let (C, t, small, D) = c.before.before.requires in (
+    let (C, t, small, D) = c.requires in (
       t,
       D.quotient,
       omega (arith, C.fits),
-      omega (arith, C.fits, c.before.if1.false),
+      omega (arith, C.fits, c.if-i-n.false),
       small,
-      quotient_terms D C.monic_second (omega (arith, c.before.if1.false)) (rw add-one C.monic_first.below),
-    ))  -- product-requires
+      quotient_terms D C.monic_second (omega (arith, c.if-i-n.false)) (rw add-one C.monic_first.below),
+    ))  -- product-v-requires
     (λ c κs. search rules)  -- sum-requires
     (λ c.
-    let (C, t, small, D) = c.before.before.before.before.requires in
-    quotient_parts D _ c.before.before.product-quotient2.ensures c.before.product.ensures c.sum.ensures))  -- returns-2
+    let (C, t, small, D) = c.requires in
+    quotient_parts D _ c.product_quotient-x.ensures c.product-v.ensures c.sum.ensures))  -- returns

@@ -14,19 +14,19 @@ pub correction_spec : {M : Type 1} → statement M
 correction_spec =
     tie.close
     (tie.spec
-    (λ c. search rules)  -- add-divide
+    (λ c. search rules)  -- overflow_add-i
     (λ c κs.
     let C = c.requires.0 in
-    (C.first, C.second, omega (arith, C.fits), omega (arith, C.fits), rw add-one C.monic_first.below, C.monic_second))  -- divide-requires
+    (C.first, C.second, omega (arith, C.fits), omega (arith, C.fits), rw add-one C.monic_first.below, C.monic_second))  -- divide-d-requires
     (λ c κs.
-    let C = c.before.before.requires.0 in
-    let D = c.before.divide.ensures in
-    (is_prime_lem C.prime, C.positive, omega (arith, C.fits), D.remainder, C.second, D.small, C.monic_second))  -- gcd-requires
-    (λ c κs. search rules)  -- product-modulo-requires
-    (λ c κs. search rules)  -- cofactor-requires
+    let C = c.requires.0 in
+    let D = c.divide-d.ensures in
+    (is_prime_lem C.prime, C.positive, omega (arith, C.fits), D.remainder, C.second, D.small, C.monic_second))  -- gcd-g-requires
+    (λ c κs. search rules)  -- product_modulo-t-requires
+    (λ c κs. search rules)  -- cofactor-y-requires
     (λ c.
-    let at = c.before.before.before.before in
+    let at = c.before in
     let (C, h, small) = at.before.before.before.requires in
-    let (g, u) = at.gcd.ensures in
-    correction_is C _ small (inverse_is C (remainder_divided _ at.before.before.divide.ensures) g u) c.before.before.product-modulo.ensures
-    c.cofactor.ensures))  -- returns
+    let (g, u) = at.gcd-g.ensures in
+    correction_is C _ small (inverse_is C (remainder_divided _ at.before.before.divide-d.ensures) g u) c.product_modulo-t.ensures
+    c.cofactor-y.ensures))  -- returns

@@ -12,11 +12,11 @@ pub product_quotient_spec : {M : Type 1} → statement M
 product_quotient_spec =
     tie.close
     (tie.spec
-    (λ c. search rules)  -- add-product
-    (λ c κs. search rules)  -- product-requires
-    (λ c. search rules)  -- add-divide
+    (λ c. search rules)  -- overflow_add-m
+    (λ c κs. search rules)  -- product-w-requires
+    (λ c. search rules)  -- overflow_add-n
     (λ c κs.
-    let (fits, t, r, b, small_t, small_r, monic) = c.before.requires in
-    let w = c.product.ensures in
-    (w.reduced, b, omega (arith, fits), omega (arith, fits), rw w.is (below_mul small_t (rw (← add-one) small_r)), monic))  -- divide-requires
-    (λ c. quotient_divided c.before.before.product.ensures c.before.divide.ensures))  -- returns
+    let (fits, t, r, b, small_t, small_r, monic) = c.requires in
+    let w = c.product-w.ensures in
+    (w.reduced, b, omega (arith, fits), omega (arith, fits), rw w.is (below_mul small_t (rw (← add-one) small_r)), monic))  -- divide-d-requires
+    (λ c. quotient_divided c.product-w.ensures c.divide-d.ensures))  -- returns

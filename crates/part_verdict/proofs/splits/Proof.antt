@@ -9,7 +9,7 @@ pub splits_spec : {M : Type 1} → statement M
 splits_spec =
     tie.close
     (tie.spec
-    (λ c κs. search rules)  -- reduce-requires
-    (λ c. search rules)  -- sub-result
-    (λ c. rw (← c.before.reduce.ensures.0, eq-eqb _ _ c.if1.true))  -- returns
-    (λ c. rw (← c.before.reduce.ensures.0, ne_eqb _ _ c.if1.false)))  -- returns-2
+    (λ c κs. search rules)  -- reduce-a-requires
+    (λ c. search rules)  -- overflow_sub-result
+    (λ c. rw (← c.reduce-a.ensures.0, eq-eqb _ _ c.if-a-eq0.true))  -- returns-then-a-eq0
+    (λ c. rw (← c.reduce-a.ensures.0, ne_eqb _ _ c.if-a-eq0.false)))  -- returns-else-a-eq0

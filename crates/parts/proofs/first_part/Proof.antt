@@ -10,18 +10,18 @@ pub first_part_spec : {M : Type 1} → statement M
 first_part_spec =
     tie.close
     (tie.spec
-    (λ c. omega (arith, first_fits c.before.before.requires.2))  -- mul-n
-    (λ c. omega (arith, square_small _ c.before.before.requires.2.monic.prime))  -- mul-power
+    (λ c. omega (arith, first_fits c.requires.2))  -- overflow_mul-n
+    (λ c. omega (arith, square_small _ c.requires.2.monic.prime))  -- overflow_mul-p
     (λ c κs.
-    let w = c.before.before.requires.2 in
+    let w = c.requires.2 in
     let g = first_lifted w in
-    ((first_held w).positive, first_fits w, g.monic, g.reduced))  -- power-requires
-    (λ c κs. first_cuttable c.before.before.before.requires.2 c.power.ensures)  -- cut-off-requires
+    ((first_held w).positive, first_fits w, g.monic, g.reduced))  -- power-whole-requires
+    (λ c κs. first_cuttable c.requires.2 c.power-whole.ensures)  -- cut_off-cut-requires
     (λ c κs.
     let e = c.before.before.before in
-    (first_given e.before.before.before.requires.2 e.power.ensures c.before.before.cut_off.ensures, e.power.ensures))  -- split-part-requires
-    (λ c. omega (arith, first_less c.before.before.before.before.before.before.before.requires.2))  -- sub-t13
+    (first_given e.before.before.before.requires.2 e.power-whole.ensures c.cut_off-cut.ensures, e.power-whole.ensures))  -- split_part-requires
+    (λ c. omega (arith, first_less c.requires.2))  -- overflow_sub-result
     (λ c.
     let e = c.before.before.before.before in
-    first_found e.before.before.before.requires.2 e.power.ensures c.before.before.before.cut_off.ensures
-    c.split-part.ensures))  -- returns
+    first_found e.before.before.before.requires.2 e.power-whole.ensures c.cut_off-cut.ensures
+    c.split_part.ensures))  -- returns

@@ -11,10 +11,10 @@ pub part_over_spec : {M : Type 1} → statement M
 part_over_spec =
     tie.close
     (tie.spec
-    (λ c. omega (arith, square_small _ c.before.requires.prime))  -- mul-power
+    (λ c. omega (arith, square_small _ c.requires.prime))  -- overflow_mul-p
     (λ c κs.
-    let given = c.before.requires in
+    let given = c.requires in
     let g = g_is_monic given (digit_chosen given) in
-    (given.over.positive, part_room given, g.monic, g.reduced))  -- power-requires
-    (λ c κs. search rules)  -- split-part-requires
+    (given.over.positive, part_room given, g.monic, g.reduced))  -- power-whole-requires
+    (λ c κs. search rules)  -- split_part-requires
     (λ c. search rules))  -- returns

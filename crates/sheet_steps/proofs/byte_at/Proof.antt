@@ -10,9 +10,9 @@ pub byte_at_spec : {M : Type 1} → statement M
 byte_at_spec =
     tie.close
     (tie.spec
-    (λ c. search rules)  -- shared-slice-read-t8
-    (λ c. omega (arith, c.shared-slice-known.given c.before.before.args.at))  -- cast-t9
-    (λ c. search rules)  -- add-t10
-    (λ c. search rules)  -- add-t11
-    (λ c. byte_taken (search rules) (c.shared-slice-known.given c.before.before.args.at).fits)  -- returns
-    (λ c. byte_missing (search rules)))  -- returns-2
+    (λ c. search rules)  -- bounds-part-at
+    (λ c. omega (arith, c.shared_slice_known-1.given c.before.before.args.at))  -- overflow_cast-result
+    (λ c. search rules)  -- overflow_add-result
+    (λ c. search rules)  -- overflow_add-result-else-at-part
+    (λ c. byte_taken (search rules) (c.shared_slice_known-1.given c.before.before.args.at).fits)  -- returns-then-at-part
+    (λ c. byte_missing (search rules)))  -- returns-else-at-part

@@ -9,6 +9,6 @@ pub comes_spec : {M : Type 1} → statement M
 comes_spec =
     tie.close
     (tie.spec
-    (λ c. search rules)  -- shared-slice-read-result
-    (λ c. comes_byte _ (search rules))  -- returns
-    (λ c. comes_none _ (search rules)))  -- returns-2
+    (λ c. search rules)  -- bounds-part-at
+    (λ c. comes_byte _ (search rules))  -- returns-then-at-part
+    (λ c. comes_none _ (search rules)))  -- returns-else-at-part

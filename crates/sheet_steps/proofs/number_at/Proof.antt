@@ -12,7 +12,7 @@ number_at_spec =
     tie.close
     (tie.spec
     (λ c κs. search rules)  -- wide-requires
-    (λ c κs. search rules)  -- two-bytes-at-requires
-    (λ c. rw (sym c.before.before.wide.ensures ∙ c.before.if1.true) c.two-bytes-at.ensures)  -- returns
-    (λ c κs. search rules)  -- byte-at-requires
-    (λ c. rw (sym c.before.before.wide.ensures ∙ c.before.if1.false) (step_below _ (omega arith) c.byte_at.ensures)))  -- returns-2
+    (λ c κs. search rules)  -- two_bytes_at-requires
+    (λ c. rw (sym c.before.before.wide.ensures ∙ c.before.if-wide.true) c.two_bytes_at.ensures)  -- returns-then-wide
+    (λ c κs. search rules)  -- byte_at-requires
+    (λ c. rw (sym c.before.before.wide.ensures ∙ c.before.if-wide.false) (step_below _ (omega arith) c.byte_at.ensures)))  -- returns

@@ -13,28 +13,28 @@ use Rattle.sheet_writer.proofs.CoefficientsWritten.{wrote_zero, command_is}
 use Rattle.sheet_writer.proofs.write_coefficient.Statement.{statement}
 use Rattle.sheet_writer.proofs.write_coefficient.Tie as tie
 
-abbrev start : tie.After-coefficient-code → tie.Start
+abbrev start : tie.After-coefficient_code-code → tie.Start
 start c = c.before.before.before
 
 -- the command's bytes
-command : (c : tie.After-coefficient-code) → let a = (start c).args in
-    c.coefficient-code.result ∷ a.i ∷ value_bytes a.p a.v ≡ coefficient_bytes a.p a.i (a.v ∷ [])
-command c = let a = (start c).args in command_is a.p a.i a.v c.before.if1.false c.coefficient-code.ensures
+command : (c : tie.After-coefficient_code-code) → let a = (start c).args in
+    c.coefficient_code-code.result ∷ a.i ∷ value_bytes a.p a.v ≡ coefficient_bytes a.p a.i (a.v ∷ [])
+command c = let a = (start c).args in command_is a.p a.i a.v c.before.if-v-eq0.false c.coefficient_code-code.ensures
 
-room : (c : tie.After-coefficient-code) → let a = (start c).args in
-    Room a.out.now a.at (c.coefficient-code.result ∷ a.i ∷ value_bytes a.p a.v)
+room : (c : tie.After-coefficient_code-code) → let a = (start c).args in
+    Room a.out.now a.at (c.coefficient_code-code.result ∷ a.i ∷ value_bytes a.p a.v)
 room c = room_as (command c) (start c).requires
 
 pub write_coefficient_spec : {M : Type 1} → statement M
 write_coefficient_spec =
     tie.close
     (tie.spec
-    (λ c κs. search rules)  -- coefficient-code-requires
-    (λ c. omega (arith, (room c.before).low _ (there (here refl))))  -- cast-put-two
-    (λ c κs. omega (arith, (room c.before).fits))  -- put-two-requires
-    (λ c κs. room_next (_ ∷ _ ∷ []) _ (room c.before.before.before.before.before) c.before.before.before.put_two.ensures)  -- write-value-requires
-    (λ c. wrote_zero _ _ _ _ _ c.if1.true c.before.before.requires)  -- returns
-    (λ c. search rules)  -- same-length
+    (λ c κs. search rules)  -- coefficient_code-code-requires
+    (λ c. omega (arith, (room c.before).low _ (there (here refl))))  -- overflow_cast-i
+    (λ c κs. omega (arith, (room c.before).fits))  -- put_two-next-requires
+    (λ c κs. room_next (_ ∷ _ ∷ []) _ (room c.before.before.before.before.before) c.before.before.before.put_two-next.ensures)  -- write_value-requires
+    (λ c. wrote_zero _ _ _ _ _ c.if-v-eq0.true c.before.before.requires)  -- returns-then-v-eq0
+    (λ c. search rules)  -- shape_of-out
     (λ c.
     let after_two = c.before.before.before.before.before.before in
-    wrote_as (command after_two.before.before) (wrote_more after_two.put_two.ensures c.before.before.write-value.ensures)))  -- returns-2
+    wrote_as (command after_two.before.before) (wrote_more after_two.put_two-next.ensures c.before.before.write_value.ensures)))  -- returns-else-v-eq0

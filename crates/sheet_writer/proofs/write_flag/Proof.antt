@@ -11,7 +11,7 @@ pub write_flag_spec : {M : Type 1} → statement M
 write_flag_spec =
     tie.close
     (tie.spec
-    (λ c κs. omega (arith, (room_as (flag_is _ c.before.if1.true) c.before.before.before.requires).fits))  -- put-requires
-    (λ c. search rules)  -- same-length
-    (λ c. wrote_as (flag_is _ c.before.before.before.before.if1.true) c.before.before.put.ensures)  -- returns
-    (λ c. wrote_as (no_flag _ c.if1.false) (wrote_none _ _ (omega (arith, c.before.before.requires.fits)))))  -- returns-2
+    (λ c κs. omega (arith, (room_as (flag_is _ c.before.if-asked.true) c.before.before.before.requires).fits))  -- put-requires
+    (λ c. search rules)  -- shape_of-out
+    (λ c. wrote_as (flag_is _ c.before.before.before.before.if-asked.true) c.before.before.put.ensures)  -- returns-then-asked
+    (λ c. wrote_as (no_flag _ c.if-asked.false) (wrote_none _ _ (omega (arith, c.before.before.requires.fits)))))  -- returns-else-asked

@@ -18,7 +18,7 @@ pub write_head_spec : {M : Type 1} → statement M
 write_head_spec =
     tie.close
     (tie.spec
-    (λ c. search rules)  -- cast-put-four
-    (λ c κs. let start = c.before.before.before in omega (arith, (room_as (head start) start.requires.1).fits))  -- put-four-requires
-    (λ c. search rules)  -- same-length
+    (λ c. search rules)  -- overflow_cast-s
+    (λ c κs. let start = c.before.before.before in omega (arith, (room_as (head start) start.requires.1).fits))  -- put_four-requires
+    (λ c. search rules)  -- shape_of-out
     (λ c. wrote_as (head c.before.before.before.before.before.before) c.before.before.put_four.ensures))  -- returns
