@@ -9,7 +9,7 @@ use native.Mathlib.Omega.{arith}
 use lib.Dec.{ltb}
 use borrow.Author.Tests.{lt-ltb, le-ltb, ltb-false}
 use Rattle.specification.specs.Limits.{taken, ◌², number_limit, exponent_limit}
-use Rattle.specification.specs.Grammar.{Tree, number, power}
+use Rattle.specification.specs.Grammar.{Tree, power}
 use Rattle.specification.specs.TypedLines.{meaning, is_high}
 use Rattle.lists.specs.Tests.{or_false}
 use Rattle.algebra.specs.Numbers.{lt_or_le}

@@ -8,7 +8,7 @@ use native.Mathlib.Omega.{arith}
 use lib.Dec.{ltb}
 use borrow.Author.Tests.{lt-ltb, le-ltb}
 use Rattle.specification.specs.Limits.{taken, ◌²}
-use Rattle.specification.specs.Grammar.{Tree, number, times}
+use Rattle.specification.specs.Grammar.{Tree, times}
 use Rattle.specification.specs.TypedLines.{meaning, is_high}
 use Rattle.algebra.specs.TakenPrimes.{square_above_one}
 use Rattle.algebra.specs.PolynomialRing.{◌·◌}

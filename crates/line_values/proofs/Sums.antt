@@ -4,14 +4,14 @@ use mathlib.Core.Path.{◌≡◌, sym, ◌∙◌, ap₂}
 use mathlib.Core.Logic.{◌≢◌}
 use Prim.Native.Nat.{ℕ, ◌<◌}
 use Rattle.specification.specs.Limits.{◌²}
-use Rattle.specification.specs.Grammar.{number, minus_sign}
+use Rattle.specification.specs.Grammar.{minus_sign}
 use Rattle.specification.specs.TypedLines.{meaning}
 use Rattle.algebra.specs.PolynomialRing.{◌+ᴿ◌, -ᴿ◌}
 use Rattle.algebra.specs.CoefficientLists.{poly, poly_add, poly_sub}
 use Rattle.arrays.specs.Represents.{Represents}
 use Rattle.line_values.specs.declared.Piece.{Piece}
 use Rattle.line_values.specs.Worth.{IsPiece, Worse, OfSum}
-use Rattle.line_values.proofs.Pieces.{plus_number, minus_number, none, back, joined}
+use Rattle.line_values.proofs.Pieces.{plus_number, minus_number, back, joined}
 
 module _ {p : ℕ} {a b : Piece} {k : ℕ} (worse : Worse a.number b.number k) where
   pub sum_without : {sign : ℕ} {r : Piece} → IsPiece k b.end r → k ≢ 0 → OfSum p sign a b r

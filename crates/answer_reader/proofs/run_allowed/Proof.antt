@@ -12,9 +12,9 @@ pub run_allowed_spec : {M : Type 1} → statement M
 run_allowed_spec =
     tie.close
     (tie.spec
-    (λ c κs. search rules)  -- has-run-requires
+    (λ c κs. search rules)  -- has_run-requires
     (λ c. record {
-      yes = λ e asked. subst T (sym (sym c.has-run.ensures ∙ e)) tt;
-      no = λ e h. subst T (sym c.has-run.ensures ∙ e) (h c.before.if1.true);
-    })  -- returns
-    (λ c. record { yes = λ e. contrary c.if1.false; no = λ e. absurd (true≢false e) }))  -- returns-2
+      yes = λ e asked. subst T (sym (sym c.has_run.ensures ∙ e)) tt;
+      no = λ e h. subst T (sym c.has_run.ensures ∙ e) (h c.if-run.true);
+    })  -- returns-then-run
+    (λ c. record { yes = λ e. contrary c.if-run.false; no = λ e. absurd (true≢false e) }))  -- returns-else-run

@@ -9,16 +9,16 @@ use Rattle.answer_writer.specs.Counting.{part_factors, part_records, Adds, split
 use Rattle.answer_writer.proofs.part_totals.Statement.{statement}
 use Rattle.answer_writer.proofs.part_totals.Tie as tie
 
-abbrev start : tie.After-is-split → tie.Start
+abbrev start : tie.After-is_split → tie.Start
 start c = c.before.before.before
 
 -- ---- the two verdicts
 
-split : (c : tie.Then1) → let x = (start c.before).args.part in (part_factors (as_part x) ≡ x.first.times + x.second.times) × (part_records (as_part x) ≡ 2)
-split c = split_counts (start c.before).args.part (sym c.before.is-split.ensures ∙ c.if1.true)
+split : (c : tie.Then-is_split) → let x = (start c.before).args.part in (part_factors (as_part x) ≡ x.first.times + x.second.times) × (part_records (as_part x) ≡ 2)
+split c = split_counts (start c.before).args.part (sym c.is_split.ensures ∙ c.if-is_split.true)
 
-other : (c : tie.Else1) → let x = (start c.before).args.part in (part_factors (as_part x) ≡ x.first.times) × (part_records (as_part x) ≡ 1)
-other c = other_counts (start c.before).args.part (sym c.before.is-split.ensures ∙ c.if1.false)
+other : (c : tie.Else-is_split) → let x = (start c.before).args.part in (part_factors (as_part x) ≡ x.first.times) × (part_records (as_part x) ≡ 1)
+other c = other_counts (start c.before).args.part (sym c.is_split.ensures ∙ c.if-is_split.false)
 
 -- ---- a part with s factors, z of them different
 
@@ -35,9 +35,9 @@ pub part_totals_spec : {M : Type 1} → statement M
 part_totals_spec =
     tie.close
     (tie.spec
-    (λ c κs. search rules)  -- is-split-requires
-    (λ c. let verdict = c.before.before in omega (arith, asked (start verdict.before) (split verdict)))  -- add-totals-of
-    (λ c κs. let verdict = c.before.before in omega (arith, asked (start verdict.before) (split verdict)))  -- totals-of-requires
-    (λ c κs. omega (arith, asked (start c.before) (other c)))  -- totals-of-requires-2
-    (λ c. let verdict = c.before.before.before in added (start verdict.before) (split verdict) c.totals-of.ensures)  -- returns
-    (λ c. added (start c.before.before) (other c.before) c.totals-of2.ensures))  -- returns-2
+    (λ c κs. search rules)  -- is_split-requires
+    (λ c. let verdict = c.before.before in omega (arith, asked (start verdict.before) (split verdict)))  -- overflow_add-first
+    (λ c κs. let verdict = c.before.before in omega (arith, asked (start verdict.before) (split verdict)))  -- totals_of-requires
+    (λ c κs. omega (arith, asked (start c.before) (other c)))  -- totals_of-requires-else-is_split
+    (λ c. let verdict = c.before.before.before in added (start verdict.before) (split verdict) c.totals_of.ensures)  -- returns-then-is_split
+    (λ c. added (start c.before.before) (other c.before) c.totals_of-else-is_split.ensures))  -- returns-else-is_split

@@ -16,6 +16,6 @@ pub totals_of_spec : {M : Type 1} → statement M
 totals_of_spec =
     tie.close
     (tie.spec
-    (λ c. search rules)  -- sub-t4
-    (λ c. small _ _ c.requires.0 (omega (arith, c.requires.2)))  -- mul-t5
+    (λ c. search rules)  -- overflow_sub-result
+    (λ c. small _ _ c.requires.0 (omega (arith, c.requires.2)))  -- overflow_mul-result
     (λ c. search rules))  -- returns

@@ -8,11 +8,11 @@ pub verdict_number_spec : {M : Type 1} → statement M
 verdict_number_spec =
     tie.close
     (tie.spec
-    (λ c. search rules)  -- enum-told
-    (λ c. search rules)  -- enum-told-2
-    (λ c. search rules)  -- enum-told-3
-    (λ c. search rules)  -- enum-told-4
-    (λ c. search rules)  -- returns
-    (λ c. search rules)  -- returns-2
-    (λ c. search rules)  -- returns-3
-    (λ c. search rules))  -- returns-4
+    (λ c. search rules)  -- enum_told-1
+    (λ c. search rules)  -- enum_told-in-Solid
+    (λ c. search rules)  -- enum_told-in-Power
+    (λ c. search rules)  -- enum_told-in-Split
+    (λ c. search rules)  -- returns-in-Basic
+    (λ c. search rules)  -- returns-in-Solid
+    (λ c. search rules)  -- returns-in-Power
+    (λ c. search rules))  -- returns-in-Split

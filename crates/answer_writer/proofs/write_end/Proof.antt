@@ -31,28 +31,28 @@ low : (c : tie.Start) → let t = c.args.t in (t.factors < 256) × (t.different 
 low c = let b = (room c).low in (b _ (there (here refl)), b _ (there (there (here refl))), b _ (there (there (there (here refl)))))
 
 -- the totals are written
-module _ (c : tie.After-put-four) where
+module _ (c : tie.After-put_four-next) where
   abbrev start : tie.Start
   start = c.before.before.before.before.before.before
 
-  rest_room : Room c.put_four.new.0 c.put_four.result (run start.args.s ++ (0x0F ∷ []))
-  rest_room = room_next (totals start.args.t) _ (room start) c.put_four.ensures
+  rest_room : Room c.put_four-next.new.out c.put_four-next.result (run start.args.s ++ (0x0F ∷ []))
+  rest_room = room_next (totals start.args.t) _ (room start) c.put_four-next.ensures
 
 pub write_end_spec : {M : Type 1} → statement M
 write_end_spec =
     tie.close
     (tie.spec
-    (λ c. omega (arith, low c.before.before.before))  -- cast-put-four
-    (λ c. omega (arith, low c.before.before.before.before))  -- cast-put-four-2
-    (λ c. omega (arith, low c.before.before.before.before.before))  -- cast-put-four-3
-    (λ c κs. omega (arith, (room c.before.before.before.before.before).fits))  -- put-four-requires
-    (λ c κs. let counted = c.before.before.before in ((start counted).requires.0, room_first _ (0x0F ∷ []) (rest_room counted)))  -- write-run-requires
+    (λ c. omega (arith, low c.before.before.before))  -- overflow_cast-t
+    (λ c. omega (arith, low c.before.before.before.before))  -- overflow_cast-t-2
+    (λ c. omega (arith, low c.before.before.before.before.before))  -- overflow_cast-t-3
+    (λ c κs. omega (arith, (room c.before.before.before.before.before).fits))  -- put_four-next-requires
+    (λ c κs. let counted = c.before.before.before in ((start counted).requires.0, room_first _ (0x0F ∷ []) (rest_room counted)))  -- write_run-last-requires
     (λ c κs.
     let shown = c.before.before.before in
-    room_byte _ 0x0F (rest_room shown.before.before.before.before) shown.write-run.ensures)  -- put-requires
-    (λ c. search rules)  -- same-length
+    room_byte _ 0x0F (rest_room shown.before.before.before.before) shown.write_run-last.ensures)  -- put-requires
+    (λ c. search rules)  -- shape_of-out
     (λ c.
     let shown = c.before.before.before.before.before.before in
     let counted = shown.before.before.before.before in
     wrote_as (sym (end_bytes_is _ (as_totals (start counted).args.t)))
-    (wrote_more counted.put_four.ensures (wrote_more shown.write-run.ensures c.before.before.put.ensures))))  -- returns
+    (wrote_more counted.put_four-next.ensures (wrote_more shown.write_run-last.ensures c.put.ensures))))  -- returns

@@ -21,7 +21,7 @@ use Rattle.answer_writer.proofs.write_factor.Tie as tie
 abbrev bytes : ℕ → Factor → List ℕ
 bytes p q = (0x12 ∷ q.degree ∷ q.times ∷ []) ++ coefficient_bytes p 0 (take q.degree q.coefs)
 
-abbrev start : tie.After-put-three → tie.Start
+abbrev start : tie.After-put_three-next → tie.Start
 start c = c.before.before.before.before.before.before
 
 whole : (c : tie.Start) → bytes c.args.p c.args.q ≡ factor_bytes c.args.p (as_factor c.args.q)
@@ -34,13 +34,13 @@ pub write_factor_spec : {M : Type 1} → statement M
 write_factor_spec =
     tie.close
     (tie.spec
-    (λ c. search rules)  -- cast-put-three
-    (λ c. omega (arith, (room c.before.before.before.before.before).low _ (there (there (here refl)))))  -- cast-put-three-2
-    (λ c κs. omega (arith, (room c.before.before.before.before.before).fits))  -- put-three-requires
+    (λ c. search rules)  -- overflow_cast-q
+    (λ c. omega (arith, (room c.before.before.before.before.before).low _ (there (there (here refl)))))  -- overflow_cast-q-2
+    (λ c κs. omega (arith, (room c.before.before.before.before.before).fits))  -- put_three-next-requires
     (λ c κs.
     let headed = c.before.before.before in
-    (search rules, room_next (_ ∷ _ ∷ _ ∷ []) _ (room (start headed)) headed.put_three.ensures))  -- write-coefficients-requires
-    (λ c. search rules)  -- same-length
+    (search rules, room_next (_ ∷ _ ∷ _ ∷ []) _ (room (start headed)) headed.put_three-next.ensures))  -- write_coefficients-requires
+    (λ c. search rules)  -- shape_of-out
     (λ c.
     let headed = c.before.before.before.before.before.before in
-    wrote_as (whole (start headed)) (wrote_more headed.put_three.ensures c.before.before.write-coefficients.ensures)))  -- returns
+    wrote_as (whole (start headed)) (wrote_more headed.put_three-next.ensures c.write_coefficients.ensures)))  -- returns

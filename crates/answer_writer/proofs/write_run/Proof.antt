@@ -13,13 +13,13 @@ pub write_run_spec : {M : Type 1} → statement M
 write_run_spec =
     tie.close
     (tie.spec
-    (λ c. search rules)  -- cast-put-three
-    (λ c. search rules)  -- cast-put-three-2
+    (λ c. search rules)  -- overflow_cast-run
+    (λ c. search rules)  -- overflow_cast-run-then-s
     (λ c κs.
-    let (run, room) = c.before.before.before.requires in
-    omega (arith, (room_as (run_written _ run c.before.if1.true) room).fits))  -- put-three-requires
-    (λ c. search rules)  -- same-length
+    let (run, room) = c.requires in
+    omega (arith, (room_as (run_written _ run c.if-s.true) room).fits))  -- put_three-requires
+    (λ c. search rules)  -- shape_of-out
     (λ c.
     let asked = c.before.before.before.before in
-    wrote_as (run_written _ asked.before.before.requires.0 asked.if1.true) c.before.before.put_three.ensures)  -- returns
-    (λ c. wrote_as (sym (run_bytes_none _ c.if1.false)) (wrote_none _ _ (omega (arith, c.before.before.requires.1.fits)))))  -- returns-2
+    wrote_as (run_written _ asked.before.before.requires.0 asked.if-s.true) c.put_three.ensures)  -- returns-then-s
+    (λ c. wrote_as (sym (run_bytes_none _ c.if-s.false)) (wrote_none _ _ (omega (arith, c.requires.1.fits)))))  -- returns-else-s

@@ -14,15 +14,15 @@ pub of_number_spec : {M : Type 1} → statement M
 of_number_spec =
     tie.close
     (tie.spec
-    (λ c κs. search rules)  -- without-value-requires
-    (λ c. number_large c.without-value.ensures c.before.if1.true)  -- returns
+    (λ c κs. search rules)  -- without_value-requires
+    (λ c. number_large c.without_value.ensures c.before.if-v-gt65535.true)  -- returns-then-v-gt65535
     (λ c κs. search rules)  -- square-requires
-    (λ c. search rules)  -- cast-coefs
-    (λ c. omega (arith, c.square.ensures, square_above_one _ c.before.before.requires))  -- rem-coefs
+    (λ c. search rules)  -- overflow_cast-coefs
+    (λ c. omega (arith, c.square.ensures, square_above_one _ c.before.before.requires))  -- nonzero_rem-coefs
     (λ c.
     let v = c.before.before.args.v in
     let prime = c.before.before.requires in
     let pos : 0 < c.square.result = omega (arith, c.square.ensures, square_above_one _ prime) in
-    omega (arith, square_small _ prime, c.square.ensures, mod-lt v pos))  -- cast-coefs-2
-    (λ c. search rules)  -- array-write-coefs
-    (λ c. number_small c.before.before.requires c.before.if1.false c.square.ensures refl refl refl))  -- returns-2
+    omega (arith, square_small _ prime, c.square.ensures, mod-lt v pos))  -- overflow_cast-coefs-2
+    (λ c. search rules)  -- bounds-coefs-0
+    (λ c. number_small c.before.before.requires c.before.if-v-gt65535.false c.square.ensures refl refl refl))  -- returns

@@ -11,28 +11,28 @@ pub of_product_spec : {M : Type 1} → statement M
 of_product_spec =
     tie.close
     (tie.spec
-    (λ c κs. search rules)  -- worse-requires
-    (λ c κs. search rules)  -- without-value-requires
-    (λ c. product_without c.before.before.worse.ensures c.without-value.ensures c.before.if1.true)  -- returns
-    (λ c κs. search rules)  -- size-requires
-    (λ c κs. search rules)  -- size-requires-2
-    (λ c. search rules)  -- add-if2
-    (λ c κs. search rules)  -- without-value-requires-2
+    (λ c κs. search rules)  -- worse-number-requires
+    (λ c κs. search rules)  -- without_value-requires
+    (λ c. product_without c.before.before.worse-number.ensures c.without_value.ensures c.before.if-number-ne0.true)  -- returns-then-number-ne0
+    (λ c κs. search rules)  -- size-s-requires
+    (λ c κs. search rules)  -- size-t-requires
+    (λ c. search rules)  -- overflow_add-s
+    (λ c κs. search rules)  -- without_value-requires-then-s-t-gt34
     (λ c.
     let start = c.before.before.before.before.before.before in
-    product_high start.before.worse.ensures start.before.before.requires.0 start.if1.false c.before.before.before.size.ensures
-    c.before.before.size2.ensures c.without-value2.ensures c.before.if2.true)  -- returns-2
+    product_high start.before.worse-number.ensures start.before.before.requires.0 start.if-number-ne0.false c.before.before.before.size-s.ensures
+    c.before.before.size-t.ensures c.without_value-then-s-t-gt34.ensures c.before.if-s-t-gt34.true)  -- returns-then-s-t-gt34
     (λ c κs. search rules)  -- square-requires
     (λ c κs.
     let start = c.before.before.before.before.before.before in
-    let none = start.before.worse.ensures.none start.if1.false in
+    let none = start.before.worse-number.ensures.none start.if-number-ne0.false in
     let pre = start.before.before.requires in
-    let s = c.before.before.before.size.ensures in
-    let t = c.before.before.size2.ensures in
+    let s = c.before.before.before.size-s.ensures in
+    let t = c.before.before.size-t.ensures in
     rw c.square.ensures
-    (pre.1.reduced none.0, pre.2.reduced none.1, s.limit, c.before.if2.false, below_size _ s, below_size _ t))  -- product-requires
+    (pre.1.reduced none.0, pre.2.reduced none.1, s.limit, c.before.if-s-t-gt34.false, below_size _ s, below_size _ t))  -- product-requires
     (λ c.
     let start = c.before.before.before.before.before.before.before in
-    product_with start.before.worse.ensures start.before.before.requires.0 start.if1.false c.before.before.before.before.size.ensures
-    c.before.before.before.size2.ensures refl refl c.before.before.if2.false
-    (rw c.before.square.ensures at c.product.ensures)))  -- returns-3
+    product_with start.before.worse-number.ensures start.before.before.requires.0 start.if-number-ne0.false c.before.before.before.before.size-s.ensures
+    c.before.before.before.size-t.ensures refl refl c.before.before.if-s-t-gt34.false
+    (rw c.before.square.ensures at c.product.ensures)))  -- returns

@@ -10,5 +10,5 @@ pub of_x_spec : {M : Type 1} → statement M
 of_x_spec =
     tie.close
     (tie.spec
-    (λ c κs. search rules)  -- monomial-requires
-    (λ c. variable_with c.before.requires refl refl c.monomial.ensures))  -- returns
+    (λ c κs. search rules)  -- monomial-coefs-requires
+    (λ c. variable_with c.before.requires refl refl c.monomial-coefs.ensures))  -- returns

@@ -8,7 +8,7 @@ pub worse_spec : {M : Type 1} → statement M
 worse_spec =
     tie.close
     (tie.spec
-    (λ c. worse_first c.if1.true)  -- returns
-    (λ c. worse_second c.if2.true)  -- returns-2
-    (λ c. worse_none c.if3.true)  -- returns-3
-    (λ c. worse_high c.before.if2.false c.before.before.if1.false c.if3.false))  -- returns-4
+    (λ c. worse_first c.if-a-eq16.true)  -- returns-then-a-eq16
+    (λ c. worse_second c.if-b-eq16.true)  -- returns-then-b-eq16
+    (λ c. worse_none c.if-a-eq0.true)  -- returns-then-a-eq0
+    (λ c. worse_high c.before.if-b-eq16.false c.before.before.if-a-eq16.false c.if-a-eq0.false))  -- returns-else-a-eq0
