@@ -1,7 +1,7 @@
 -- Readers that are exact: `Exact r Good written`, r reads exactly the good values, each from its own bytes.
 -- Proves it of bytes, judged values and commands with an operand, how a reading goes on where readers are joined or a command may come, and what a
 -- command says that is there or not. Assumes nothing.
-use Rattle.std.specs.Prelude.{◌≡◌, Bool, length, eqb, ltb}
+use Rattle.std.specs.Prelude.{◌≡◌, Bool, length, eqb}
 use Rattle.std.proofs.Math.Path.{refl, ap}
 use Rattle.std.proofs.Common.{◌∙◌, ap₂, eqb→eq, ltb→lt, eq-eqb, ne_eqb, lt-ltb}
 use Rattle.std.proofs.Math.Bool.{true, false, cond}

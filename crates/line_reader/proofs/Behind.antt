@@ -14,7 +14,7 @@ use Rattle.grammar.specs.Machine.{Context, bottom, bracket, State, wants, wants_
 use Rattle.grammar.specs.Runs as runs
 use Rattle.grammar.specs.Runs.{ExpressionRun, PrimeRead, alive}
 use Rattle.grammar.specs.Stopping.{Open, holding, open_state, open_held, Stopped}
-use Rattle.line_reader.specs.Contracts.{Skipped}
+use Rattle.line_reader.specs.LineContracts.{Skipped}
 
 -- ---- over blanks
 

@@ -1,8 +1,8 @@
 -- Bytes of a line as the code looks at them: signs, blanks and digits.
 -- Proves where a sign stands, that blanks end at one place, what is between two signs, and how a number grows by a digit. Assumes nothing.
-use mathlib.Core.Path.{◌≡◌, refl, sym, ap, ◌∙◌}
+use mathlib.Core.Path.{◌≡◌, sym, ap, ◌∙◌}
 use mathlib.Core.Bool.{Bool, true, false, and-false}
-use mathlib.Core.Logic.{◌⊎◌, ◌≢◌, ⊎_elim}
+use mathlib.Core.Logic.{⊎_elim}
 use mathlib.Core.List.{List}
 use Prim.Native.Nat.{ℕ, suc, ◌+◌, ◌*◌, ◌-◌, ◌<◌, ◌≤◌}
 use native.Mathlib.Decide.{dec_lt}
@@ -17,7 +17,7 @@ use Rattle.grammar.specs.Machine.{is_digit}
 use Rattle.line_values.specs.Worth.{held}
 use Rattle.line_values.specs.HeldNumbers.{held_small, held_bound, held_next}
 use Rattle.line_reader.specs.declared.Digits.TheVariants.{Read, Missing}
-use Rattle.line_reader.specs.Contracts.{ByteAt, DigitOf, Skipped, Counted, DigitsRead, IsSum}
+use Rattle.line_reader.specs.LineContracts.{ByteAt, DigitOf, Skipped, Counted, DigitsRead, IsSum}
 
 -- ---- signs
 

@@ -1,7 +1,7 @@
 -- A whole line: its prime, its colon and its expression, from the first byte to the last; or where it stops.
 -- Proves one law for each way in which `read_short` ends. Assumes nothing.
-use mathlib.Core.Path.{◌≡◌, refl, sym, ap, subst, ◌∙◌}
-use mathlib.Core.Logic.{◌≢◌, inl, inr}
+use mathlib.Core.Path.{◌≡◌, refl, subst, ◌∙◌}
+use mathlib.Core.Logic.{◌≢◌, inr}
 use mathlib.Core.Bool.{false}
 use mathlib.Core.List.{List}
 use Prim.Native.Nat.{ℕ, ◌+◌, ◌-◌, ◌<◌, ◌≤◌}
@@ -10,7 +10,7 @@ use native.Mathlib.Omega.{arith}
 use lib.ListN.{length, get_or}
 use Rattle.specification.specs.Limits.{answer_area, line_limit}
 use Rattle.specification.specs.Calls as calls
-use Rattle.specification.specs.Grammar.{Tree, At, Between, Expression, line}
+use Rattle.specification.specs.Grammar.{Tree, At, Expression, line}
 use Rattle.specification.specs.TypedLines.{Typed, long_line, no_line, is_line}
 use Rattle.grammar.specs.Machine as machine
 use Rattle.grammar.specs.Machine.{Context, bottom, Fresh, wants, is_digit, step, stuck, after}
@@ -20,7 +20,7 @@ use Rattle.grammar.specs.Stopping.{Stopped, stopped_is}
 use Rattle.line_values.specs.declared.Piece.{Piece}
 use Rattle.line_reader.specs.declared.TypedLine.{TypedLine}
 use Rattle.line_reader.specs.Levels as levels
-use Rattle.line_reader.specs.Contracts.{ByteAt, Skipped, Counted, Halts, ExpressionStands}
+use Rattle.line_reader.specs.LineContracts.{ByteAt, Skipped, Counted, Halts, ExpressionStands}
 use Rattle.line_reader.specs.Gives.{Gives, IsTurnedBack, PrimeIn, StandIn, WorkedOut, LineRead}
 use Rattle.line_reader.proofs.Bytes.{behind, between}
 use Rattle.line_reader.proofs.Judging.{gives_refused}

@@ -4,37 +4,12 @@ use mathlib.Core.Path.{◌≡◌, refl, sym, ap, subst, ◌∙◌}
 use mathlib.Core.Logic.{◌⊎◌, ◌≢◌, ⊎_elim}
 use mathlib.Core.Bool.{Bool, true, false}
 use mathlib.Core.List.{List}
-use Prim.Native.Nat.{ℕ, suc, ◌+◌, ◌<◌, ◌≤◌}
+use Prim.Native.Nat.{ℕ, ◌+◌, ◌<◌, ◌≤◌}
 use native.Mathlib.Nat.{le_refl}
 use native.Mathlib.Numerals.{add-one}
 use native.Mathlib.Omega.{arith}
-use lib.ListN.{length, get_or}
-use Rattle.specification.specs.Grammar.{
-  Tree,
-  number,
-  variable,
-  power,
-  times,
-  plus,
-  minus,
-  At,
-  Blanks,
-  Between,
-  Expression,
-  one_product,
-  sum,
-  difference,
-  Product,
-  one_power,
-  product,
-  Power,
-  one_term,
-  raised,
-  Term,
-  digits,
-  x,
-  brackets,
-}
+use lib.ListN.{get_or}
+use Rattle.specification.specs.Grammar.{Tree, number, variable, power, times, plus, minus, At, Blanks, Between, one_product, sum, difference, one_power, product, one_term, raised, digits, x, brackets}
 use Rattle.grammar.specs.Machine as machine
 use Rattle.grammar.specs.Machine.{Context, bracket, State, NoProduct, Fresh, wants, wants_exponent, is_digit, step, after, after_term}
 use Rattle.grammar.specs.Runs as runs
@@ -43,7 +18,7 @@ use Rattle.line_values.specs.declared.Piece.{Piece}
 use Rattle.line_values.specs.Worth.{Worth, Sound, IsPiece, OfNumber, OfX, OfSum, OfProduct, OfPower}
 use Rattle.line_values.specs.HeldNumbers.{worth_read}
 use Rattle.line_reader.specs.Levels as levels
-use Rattle.line_reader.specs.Contracts.{
+use Rattle.line_reader.specs.LineContracts.{
   ByteAt,
   Skipped,
   Counted,

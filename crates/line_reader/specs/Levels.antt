@@ -2,10 +2,10 @@
 -- behind summands. Proves how each level comes from the one below. Assumes nothing.
 use Rattle.std.specs.Prelude.{◌≡◌, Bool, true, false, cond, ℕ, eqb}
 use Rattle.std.proofs.Math.Path.{refl}
-use borrow.Author.Tests.{eq-eqb, ne_eqb}
+use borrow.Author.Tests.{ne_eqb}
 use Rattle.specification.specs.Grammar.{Tree, times, plus, minus}
-use Rattle.grammar.specs.Machine.{Context, State, stuck, wants, sum, difference, product, bracket, bottom}
-use Rattle.grammar.specs.Machine.{multiplied, added, summed, closed, after_power, after_term, Held}
+use Rattle.grammar.specs.Machine.{Context, State, stuck, wants, sum, difference, product, bottom}
+use Rattle.grammar.specs.Machine.{multiplied, added, summed, closed, after_power, after_term}
 
 unfoldable pub closing : Context → Tree → ℕ → State
 closing K t b = cond (eqb b 41) (closed (K, t)) stuck

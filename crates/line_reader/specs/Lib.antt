@@ -1,3 +1,3 @@
 pub mod Levels
-pub mod Contracts
+pub mod LineContracts
 pub mod Gives

@@ -10,7 +10,7 @@ pub appended_spec : {M : Type 1} → statement M
 appended_spec =
     tie.close
     (tie.spec
-    (λ c. search rules)  -- mul-w
-    (λ c. search rules)  -- add-w
-    (λ c. sym (held_small _ (search rules)))  -- returns
-    (λ c. sym (held_large _ (search rules))))  -- returns-2
+    (λ c. search rules)  -- overflow_mul-w
+    (λ c. search rules)  -- overflow_add-w
+    (λ c. sym (held_small _ (search rules)))  -- returns-then-w-le65535
+    (λ c. sym (held_large _ (search rules))))  -- returns-else-w-le65535

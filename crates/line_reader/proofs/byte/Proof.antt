@@ -10,6 +10,6 @@ pub byte_spec : {M : Type 1} → statement M
 byte_spec =
     tie.close
     (tie.spec
-    (λ c. search rules)  -- shared-slice-read-result
-    (λ c. record { is = refl })  -- returns
-    (λ c. record { is = sym (get_or-eq_default c.before.args.s.now 0 c.if1.false) }))  -- returns-2
+    (λ c. search rules)  -- bounds-s-at
+    (λ c. record { is = refl })  -- returns-then-at-s
+    (λ c. record { is = sym (get_or-eq_default c.before.args.s.now 0 c.if-at-s.false) }))  -- returns-else-at-s

@@ -9,7 +9,7 @@ pub digit_spec : {M : Type 1} → statement M
 digit_spec =
     tie.close
     (tie.spec
-    (λ c. search rules)  -- cast-result
-    (λ c. digit_low c.if1.true)  -- returns
-    (λ c. digit_here c.before.if1.false c.if2.true)  -- returns-2
-    (λ c. digit_high c.if2.false))  -- returns-3
+    (λ c. search rules)  -- overflow_cast-result
+    (λ c. digit_low c.if-b-lt48.true)  -- returns-then-b-lt48
+    (λ c. digit_here c.before.if-b-lt48.false c.if-b-le57.true)  -- returns-then-b-le57
+    (λ c. digit_high c.if-b-le57.false))  -- returns-else-b-le57

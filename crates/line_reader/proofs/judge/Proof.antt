@@ -9,20 +9,20 @@ pub judge_spec : {M : Type 1} → statement M
 judge_spec =
     tie.close
     (tie.spec
-    (λ c κs. search rules)  -- turned-back-requires
-    (λ c. judged_large c.before.if1.true c.turned-back.ensures)  -- returns
-    (λ c κs. search rules)  -- turned-back-requires-2
-    (λ c. judged_large_part c.before.if2.true c.turned-back2.ensures)  -- returns-2
-    (λ c κs. search rules)  -- turned-back-requires-3
+    (λ c κs. search rules)  -- turned_back-requires
+    (λ c. judged_large c.before.if-v-gt65535.true c.turned_back.ensures)  -- returns-then-v-gt65535
+    (λ c κs. search rules)  -- turned_back-requires-then-whole-eq16
+    (λ c. judged_large_part c.before.if-whole-eq16.true c.turned_back-then-whole-eq16.ensures)  -- returns-then-whole-eq16
+    (λ c κs. search rules)  -- turned_back-requires-then-p-eq0
     (λ c.
     let t = c.before in
-    judged_no_prime t.before.before.before.if1.false t.before.if2.false t.if3.true c.turned-back3.ensures)  -- returns-3
-    (λ c κs. search rules)  -- turned-back-requires-4
+    judged_no_prime t.before.before.before.if-v-gt65535.false t.before.if-whole-eq16.false t.if-p-eq0.true c.turned_back-then-p-eq0.ensures)  -- returns-then-p-eq0
+    (λ c κs. search rules)  -- turned_back-requires-then-whole-ne0
     (λ c.
     let t = c.before.before.before in
-    judged_high t.before.before.before.if1.false t.before.if2.false t.if3.false c.before.if4.true c.turned-back4.ensures)  -- returns-4
+    judged_high t.before.before.before.if-v-gt65535.false t.before.if-whole-eq16.false t.if-p-eq0.false c.before.if-whole-ne0.true c.turned_back-then-whole-ne0.ensures)  -- returns-then-whole-ne0
     (λ c κs. search rules)  -- pattern-requires
     (λ c.
     let t = c.before.before.before.before in
-    judged_pattern t.before.before.before.if1.false t.before.if2.false t.if3.false c.before.before.if4.false
-    c.pattern.ensures))  -- returns-5
+    judged_pattern t.before.before.before.if-v-gt65535.false t.before.if-whole-eq16.false t.if-p-eq0.false c.before.before.if-whole-ne0.false
+    c.pattern.ensures))  -- returns

@@ -9,13 +9,13 @@ pub pattern_spec : {M : Type 1} → statement M
 pattern_spec =
     tie.close
     (tie.spec
-    (λ c κs. search rules)  -- size-requires
-    (λ c κs. search rules)  -- turned-back-requires
-    (λ c. pattern_constant c.before.before.size.ensures c.before.if1.true c.turned-back.ensures)  -- returns
-    (λ c. search rules)  -- sub-if2
-    (λ c. search rules)  -- mul-if2
-    (λ c. search rules)  -- array-read-if2
-    (λ c κs. search rules)  -- turned-back-requires-2
-    (λ c. pattern_leading c.before.before.before.size.ensures c.before.if2.true c.turned-back2.ensures)  -- returns-2
-    (λ c. search rules)  -- sub-t7
-    (λ c. pattern_sheet c.before.before.size.ensures c.before.if1.false c.if2.false))  -- returns-3
+    (λ c κs. search rules)  -- size-s-requires
+    (λ c κs. search rules)  -- turned_back-requires
+    (λ c. pattern_constant c.before.before.size-s.ensures c.before.if-s-lt2.true c.turned_back.ensures)  -- returns-then-s-lt2
+    (λ c. search rules)  -- overflow_sub-s
+    (λ c. search rules)  -- offset_bounds-f-s
+    (λ c. search rules)  -- bounds-f-s
+    (λ c κs. search rules)  -- turned_back-requires-then-f-s-ne1
+    (λ c. pattern_leading c.before.before.before.size-s.ensures c.before.if-f-s-ne1.true c.turned_back-then-f-s-ne1.ensures)  -- returns-then-f-s-ne1
+    (λ c. search rules)  -- overflow_sub-result
+    (λ c. pattern_sheet c.before.before.size-s.ensures c.before.if-s-lt2.false c.if-f-s-ne1.false))  -- returns

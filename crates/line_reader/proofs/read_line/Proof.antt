@@ -9,7 +9,7 @@ pub read_line_spec : {M : Type 1} → statement M
 read_line_spec =
     tie.close
     (tie.spec
-    (λ c κs. search rules)  -- turned-back-requires
-    (λ c. too_long c.before.if1.true c.turned-back.ensures)  -- returns
-    (λ c κs. search rules)  -- read-short-requires
-    (λ c. as_read (c.read_short.ensures.read c.before.if1.false)))  -- returns-2
+    (λ c κs. search rules)  -- turned_back-requires
+    (λ c. too_long c.before.if-s-gt255.true c.turned_back.ensures)  -- returns-then-s-gt255
+    (λ c κs. search rules)  -- read_short-requires
+    (λ c. as_read (c.read_short.ensures.read c.before.if-s-gt255.false)))  -- returns

@@ -32,27 +32,22 @@ pub +write_decimal_spec : {M : Type 1} → statement M
     write-decimal-lts.spec (put_reads.Asked, put_reads.Learnt, write_decimal_below t, write-decimal.Post) (write_decimal_at t) write-decimal.Post
     (λ c. search rules)  -- cast-put
     (λ c. search rules)  -- add-put
-    (λ c κs. omega (arith, (room_as (sym (decimal_last _ c.before.if1.true)) c.before.before.before.requires.1).fits))  -- put-requires
-    (λ c κs.
-    let start = c.before.before.before in (
-      omega (arith, tenth start.args.n c.before.if1.false, start.requires.0),
-      room_first _ _ (room_as (sym (decimal_more start.args.n c.before.if1.false)) start.requires.1),
+    (λ c κs. omega (arith, (room_as (sym (decimal_last _ c.if-n-lt10.true)) c.requires.1).fits))  -- put-requires
+    (λ c κs. (
+      omega (arith, tenth c.args.n c.if-n-lt10.false, c.requires.0),
+      room_first _ _ (room_as (sym (decimal_more c.args.n c.if-n-lt10.false)) c.requires.1),
     ))  -- write-decimal-requires
     (λ c. search rules)  -- cast-put-2
     (λ c. search rules)  -- add-put-2
     (λ c κs.
-    let after-tenth = c.before.before.before in
-    let start = after-tenth.before.before.before.before in
     omega (
       arith,
-      (room_next _ _ (room_as (sym (decimal_more start.args.n after-tenth.before.before.if1.false)) start.requires.1)
-          after-tenth.write-decimal.ensures).fits,
+      (room_next _ _ (room_as (sym (decimal_more c.args.n c.if-n-lt10.false)) c.requires.1)
+          c.write_decimal-next.ensures).fits,
     ))  -- put-requires-2
     (λ c. search rules)  -- same-length
-    (λ c. wrote_as (sym (decimal_last _ c.before.before.before.before.if1.true)) c.before.before.put.ensures)  -- returns
+    (λ c. wrote_as (sym (decimal_last _ c.if-n-lt10.true)) c.put.ensures)  -- returns
     (λ c. search rules)  -- same-length-2
     (λ c.
-    let after-tenth = c.before.before.before.before.before.before in
-    let start = after-tenth.before.before.before.before in
-    wrote_as (sym (decimal_more start.args.n after-tenth.before.before.if1.false))
-    (wrote_more after-tenth.write-decimal.ensures c.before.before.put2.ensures))  -- returns-2
+    wrote_as (sym (decimal_more c.args.n c.if-n-lt10.false))
+    (wrote_more c.write_decimal-next.ensures c.put-else-n-lt10.ensures))  -- returns-2

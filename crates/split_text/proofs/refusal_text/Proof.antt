@@ -12,19 +12,17 @@ use Rattle.split_text.proofs.refusal_text.Tie as tie
 abbrev items : ℕ → ℕ → List ℕ
 items k at = item "refused " k ++ item " at " at
 
-abbrev start : tie.After-write-items → tie.Start
-start c = c.before.before.before.before.before
+abbrev start : tie.After-write_items-last → tie.Start
+start c = c.before.before.before.before.before.before.before
 
 pub refusal_text_spec : {M : Type 1} → statement M
 unfolding refusal_text
 refusal_text_spec =
     tie.close
     (tie.spec
-    (λ c. search rules)  -- slice-aggregate-write-items
-    (λ c. search rules)  -- slice-aggregate-write-items-2
-    (λ c κs. let a = c.before.before.before.before in room_first (items a.args.number a.args.place) (ascii "\n") a.requires)  -- write-items-requires
+    (λ c κs. let a = c.before.before.before.before in room_first (items a.args.number a.args.place) (ascii "\n") a.requires)  -- write_items-last-requires
     (λ c κs.
     let n = c.before.before.before in
-    let a = start n in room_byte (items a.args.number a.args.place) _ a.pre n.write-items.ensures)  -- put-requires
-    (λ c. search rules)  -- same-length
-    (λ c. wrote_more c.before.before.before.before.before.before.write-items.ensures c.before.before.put.ensures))  -- returns
+    let a = start n in room_byte (items a.args.number a.args.place) _ a.requires n.write_items-last.ensures)  -- put-requires
+    (λ c. search rules)  -- shape_of-out
+    (λ c. wrote_more c.write_items-last.ensures c.put.ensures))  -- returns

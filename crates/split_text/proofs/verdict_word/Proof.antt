@@ -17,11 +17,11 @@ pub verdict_word_spec : {M : Type 1} → statement M
 verdict_word_spec =
     tie.close
     (tie.spec
-    (λ c. search rules)  -- enum_told
-    (λ c. search rules)  -- enum-told-2
-    (λ c. search rules)  -- enum-told-3
-    (λ c. search rules)  -- enum-told-4
-    (λ c. ap text_of (sym c.before.before.enum_told.given.1))  -- returns
-    (λ c. ap text_of (sym c.before.before.enum-told2.given.1))  -- returns-2
-    (λ c. ap text_of (sym c.before.before.enum-told3.given.1))  -- returns-3
-    (λ c. ap text_of (sym c.before.before.enum-told4.given.1)))  -- returns-4
+    (λ c. search rules)  -- enum_told-1
+    (λ c. search rules)  -- enum_told-in-Solid
+    (λ c. search rules)  -- enum_told-in-Power
+    (λ c. search rules)  -- enum_told-in-Split
+    (λ c. ap text_of (sym c.in-Basic.is))  -- returns-in-Basic
+    (λ c. ap text_of (sym c.in-Solid.is))  -- returns-in-Solid
+    (λ c. ap text_of (sym c.in-Power.is))  -- returns-in-Power
+    (λ c. ap text_of (sym c.in-Split.is)))  -- returns-in-Split

@@ -25,31 +25,30 @@ room c = room_as (factor_is c.args.q) c.requires.1
 
 -- ---- from one to the next
 
-abbrev start : tie.After-write-item → tie.Start
-start c = c.before.before.before.before.before
+abbrev start : tie.After-write_item-first → tie.Start
+start c = c.before.before.before.before.before.before
 
-abbrev begun : tie.After-write-coefficients → tie.After-write-item
+abbrev begun : tie.After-write_coefficients-last → tie.After-write_item-first
 begun c = c.before.before.before.before.before
 
-written : (c : tie.After-write-coefficients) → let a = (start (begun c)).args in
-    Wrote a.out.now c.write-coefficients.new.0 a.at (times a.q ++ coefficients a.q) c.write-coefficients.result
-written c = wrote_more (begun c).write-item.ensures c.write-coefficients.ensures
+written : (c : tie.After-write_coefficients-last) → let a = (start (begun c)).args in
+    Wrote a.out.now c.write_coefficients-last.new.out a.at (times a.q ++ coefficients a.q) c.write_coefficients-last.result
+written c = wrote_more (begun c).write_item-first.ensures c.write_coefficients-last.ensures
 
 pub write_factor_spec : {M : Type 1} → statement M
 write_factor_spec =
     tie.close
     (tie.spec
-    (λ c. search rules)  -- slice-aggregate-write-item
-    (λ c κs. let s = c.before.before.before.before in room_first _ (coefficients s.args.q) (room_first _ (ascii "\n") (room s)))  -- write-item-requires
-    (λ c. search rules)  -- add-write-coefficients
+    (λ c κs. let s = c.before.before.before.before.before in room_first _ (coefficients s.args.q) (room_first _ (ascii "\n") (room s)))  -- write_item-first-requires
+    (λ c. search rules)  -- overflow_add-q
     (λ c κs.
     let n = c.before.before.before.before in
     let q = (start n).args.q in (
       omega (arith, (start n).requires.0),
-      room_next (times q) (coefficients q) (room_first _ (ascii "\n") (room (start n))) n.write-item.ensures,
-    ))  -- write-coefficients-requires
+      room_next (times q) (coefficients q) (room_first _ (ascii "\n") (room (start n))) n.write_item-first.ensures,
+    ))  -- write_coefficients-last-requires
     (λ c κs. let n = c.before.before.before in room_byte _ _ (room (start (begun n))) (written n))  -- put-requires
-    (λ c. search rules)  -- same-length
+    (λ c. search rules)  -- shape_of-out
     (λ c.
     let n = c.before.before.before.before.before.before in
-    wrote_as (factor_is (start (begun n)).args.q) (wrote_more (written n) c.before.before.put.ensures)))  -- returns
+    wrote_as (factor_is (start (begun n)).args.q) (wrote_more (written n) c.put.ensures)))  -- returns

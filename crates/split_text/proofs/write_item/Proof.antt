@@ -9,9 +9,9 @@ pub write_item_spec : {M : Type 1} → statement M
 write_item_spec =
     tie.close
     (tie.spec
-    (λ c κs. room_first _ _ c.before.before.before.requires)  -- write-word-requires
+    (λ c κs. room_first _ _ c.requires)  -- write_word-next-requires
     (λ c κs.
     let after-word = c.before.before.before in
-    room_next _ _ after-word.before.before.before.before.requires after-word.write_word.ensures)  -- write-decimal-requires
-    (λ c. search rules)  -- same-length
-    (λ c. wrote_more c.before.before.before.before.before.before.write_word.ensures c.before.before.write-decimal.ensures))  -- returns
+    room_next _ _ after-word.before.before.before.before.requires after-word.write_word-next.ensures)  -- write_decimal-requires
+    (λ c. search rules)  -- shape_of-out
+    (λ c. wrote_more c.write_word-next.ensures c.write_decimal.ensures))  -- returns

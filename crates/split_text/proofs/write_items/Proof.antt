@@ -9,9 +9,9 @@ pub write_items_spec : {M : Type 1} → statement M
 write_items_spec =
     tie.close
     (tie.spec
-    (λ c κs. room_first _ _ c.before.before.before.before.requires)  -- write-item-requires
+    (λ c κs. room_first _ _ c.requires)  -- write_item-next-requires
     (λ c κs.
     let after_first = c.before.before.before in
-    room_next _ _ after_first.before.before.before.before.before.requires after_first.write-item.ensures)  -- write-item-requires-2
-    (λ c. search rules)  -- same-length
-    (λ c. wrote_more c.before.before.before.before.before.before.write-item.ensures c.before.before.write-item2.ensures))  -- returns
+    room_next _ _ after_first.before.before.before.before.before.requires after_first.write_item-next.ensures)  -- write_item-requires
+    (λ c. search rules)  -- shape_of-out
+    (λ c. wrote_more c.write_item-next.ensures c.write_item.ensures))  -- returns

@@ -42,48 +42,48 @@ lines_room c = room_first _ (run c) (room c)
 
 -- ---- from one to the next
 
-abbrev start : tie.After-write-head → tie.Start
+abbrev start : tie.After-write_head-first → tie.Start
 start c = c.before.before.before
 
-abbrev headed : tie.After-write-parts → tie.After-write-head
+abbrev headed : tie.After-write_parts-w → tie.After-write_head-first
 headed c = c.before.before.before.before
 
-written : (c : tie.After-write-parts)
-    → let begun = start (headed c) in Wrote begun.args.out.now c.write-parts.new.0 0 (head begun ++ parts begun) c.write-parts.result.after
-written c = wrote_more (headed c).write-head.ensures c.write-parts.ensures.0
+written : (c : tie.After-write_parts-w)
+    → let begun = start (headed c) in Wrote begun.args.out.now c.write_parts-w.new.out 0 (head begun ++ parts begun) c.write_parts-w.result.after
+written c = wrote_more (headed c).write_head-first.ensures c.write_parts-w.ensures.0
 
 -- the totals are those that were counted
-counted : (c : tie.After-write-parts) → total_text (as_totals c.write-parts.result.totals) ≡ totals (start (headed c))
-counted c = ap total_text c.write-parts.ensures.1
+counted : (c : tie.After-write_parts-w) → total_text (as_totals c.write_parts-w.result.totals) ≡ totals (start (headed c))
+counted c = ap total_text c.write_parts-w.ensures.1
 
-abbrev summed : tie.After-write-totals → tie.After-write-parts
+abbrev summed : tie.After-write_totals-last → tie.After-write_parts-w
 summed c = c.before.before.before.before.before
 
 -- the totals stand too
-totalled : (c : tie.After-write-totals)
+totalled : (c : tie.After-write_totals-last)
     → let begun = start (headed (summed c)) in
-    Wrote begun.args.out.now c.write-totals.new.0 0 (head begun ++ parts begun ++ totals begun) c.write-totals.result
-totalled c = wrote_more (written (summed c)) (wrote_as (counted (summed c)) c.write-totals.ensures)
+    Wrote begun.args.out.now c.write_totals-last.new.out 0 (head begun ++ parts begun ++ totals begun) c.write_totals-last.result
+totalled c = wrote_more (written (summed c)) (wrote_as (counted (summed c)) c.write_totals-last.ensures)
 
 pub write_lines_spec : {M : Type 1} → statement M
 write_lines_spec =
     tie.close
     (tie.spec
-    (λ c κs. let n = c.before.before in room_first _ (parts n) (room_first _ (totals n) (lines_room n)))  -- write-head-requires
+    (λ c κs. let n = c.before.before in room_first _ (parts n) (room_first _ (totals n) (lines_room n)))  -- write_head-first-requires
     (λ c κs.
     let h = c.before.before.before in
     let (F, good, long) = (start h).requires in
-    (F, good, room_next _ (parts (start h)) (room_first _ _ (lines_room (start h))) h.write-head.ensures))  -- write-parts-requires
+    (F, good, room_next _ (parts (start h)) (room_first _ _ (lines_room (start h))) h.write_head-first.ensures))  -- write_parts-w-requires
     (λ c κs.
     let w = c.before.before.before.before in
-    room_as (counted w) (room_next _ _ (lines_room (start (headed w))) (written w)))  -- write-totals-requires
+    room_as (counted w) (room_next _ _ (lines_room (start (headed w))) (written w)))  -- write_totals-last-requires
     (λ c κs.
     let (F, good, long) = (start (headed (summed c.before.before))).requires in
-    record { monic = F.left.monic; may_ask = good.may_ask })  -- run-asked-requires
+    record { monic = F.left.monic; may_ask = good.may_ask })  -- run_asked-run-requires
     (λ c κs.
     let t = c.before.before.before.before in
-    (c.before.run-asked.ensures, room_next _ _ (room (start (headed (summed t)))) (totalled t)))  -- write-run-requires
-    (λ c. search rules)  -- same-length
+    (c.run_asked-run.ensures, room_next _ _ (room (start (headed (summed t)))) (totalled t)))  -- write_run-requires
+    (λ c. search rules)  -- shape_of-out
     (λ c.
     let t = c.before.before.before.before.before.before.before in
-    wrote_as (whole (start (headed (summed t)))) (wrote_more (totalled t) c.before.before.write-run.ensures)))  -- returns
+    wrote_as (whole (start (headed (summed t)))) (wrote_more (totalled t) c.write_run.ensures)))  -- returns

@@ -31,43 +31,41 @@ room c = room_as (whole c) c.requires.1
 
 -- ---- from one to the next
 
-abbrev told : tie.After-write-items → tie.After-verdict-word
-told c = c.before.before.before.before
+abbrev told : tie.After-write_items-verdict_place → tie.After-verdict_word-word
+told c = c.before.before.before.before.before.before
 
-abbrev start : tie.After-write-items → tie.Start
+abbrev start : tie.After-write_items-verdict_place → tie.Start
 start c = (told c).before.before.before.before
 
-abbrev begun : tie.After-write-word → tie.After-write-items
+abbrev begun : tie.After-write_word-next → tie.After-write_items-verdict_place
 begun c = c.before.before.before.before.before
 
-written : (c : tie.After-write-word) → let a = (start (begun c)).args in
-    Wrote a.out.now c.write_word.new.0 a.at (items a.part ++ word a.part) c.write_word.result
+written : (c : tie.After-write_word-next) → let a = (start (begun c)).args in
+    Wrote a.out.now c.write_word-next.new.out a.at (items a.part ++ word a.part) c.write_word-next.result
 written c =
-    wrote_more {bytes = items (start (begun c)).args.part} (begun c).write-items.ensures
-    (wrote_as (told (begun c)).verdict-word.ensures c.write_word.ensures)
+    wrote_more {bytes = items (start (begun c)).args.part} (begun c).write_items-verdict_place.ensures
+    (wrote_as (told (begun c)).verdict_word-word.ensures c.write_word-next.ensures)
 
 pub write_part_spec : {M : Type 1} → statement M
 write_part_spec =
     tie.close
     (tie.spec
-    (λ c κs. search rules)  -- verdict-word-requires
-    (λ c. search rules)  -- slice-aggregate-write-items
-    (λ c. search rules)  -- slice-aggregate-write-items-2
+    (λ c κs. search rules)  -- verdict_word-word-requires
     (λ c κs.
-    let s = c.before.before.before.before.before.before.before in
+    let s = c.before.before.before.before.before.before.before.before.before in
     let x = s.args.part in
-    room_first (items x) (word x) (room_first (items x ++ word x) (factors x) (room s)))  -- write-items-requires
-    (λ c. search rules)  -- slice-aggregate-write-word
+    room_first (items x) (word x) (room_first (items x ++ word x) (factors x) (room s)))  -- write_items-verdict_place-requires
+    (λ c. search rules)  -- slice_bounds-write_word-end
     (λ c κs.
     let n = c.before.before.before.before in
     let x = (start n).args.part in
-    room_as (told n).verdict-word.ensures
-    (room_next (items x) (word x) (room_first (items x ++ word x) (factors x) (room (start n))) n.write-items.ensures))  -- write-word-requires
+    room_as (told n).verdict_word-word.ensures
+    (room_next (items x) (word x) (room_first (items x ++ word x) (factors x) (room (start n))) n.write_items-verdict_place.ensures))  -- write_word-next-requires
     (λ c κs.
     let n = c.before.before.before in
     let s = start (begun n) in
-    (s.pre.0.first, s.pre.0.second, room_next _ (factors s.args.part) (room s) (written n)))  -- write-factors-requires
-    (λ c. search rules)  -- same-length
+    (s.requires.0.first, s.requires.0.second, room_next _ (factors s.args.part) (room s) (written n)))  -- write_factors-requires
+    (λ c. search rules)  -- shape_of-out
     (λ c.
     let n = c.before.before.before.before.before.before in
-    wrote_as (whole (start (begun n))) (wrote_more (written n) c.before.before.write-factors.ensures)))  -- returns
+    wrote_as (whole (start (begun n))) (wrote_more (written n) c.write_factors.ensures)))  -- returns

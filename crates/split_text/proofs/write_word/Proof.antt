@@ -11,32 +11,32 @@ use Rattle.split_text.specs.TextArrays.{word_turns}
 use Rattle.split_text.proofs.write_word.Statement.{statement}
 use Rattle.split_text.proofs.write_word.Tie as tie
 
-abbrev invariant-loop : tie.invariant-loop
-invariant-loop out₀ at word after₀ i₀ out after i = Written (λ i. take i word) (length word) out₀ out at after i
+abbrev invariant-loop-i : tie.invariant-loop-i
+invariant-loop-i out₀ at word after₀ i₀ out after i = Written (λ i. take i word) (length word) out₀ out at after i
 
-abbrev decreases-loop : tie.decreases-loop
-decreases-loop out₀ at word after₀ i₀ out after i = length word - i
+abbrev decreases-loop-i : tie.decreases-loop-i
+decreases-loop-i out₀ at word after₀ i₀ out after i = length word - i
 
 -- all bytes of the word have room
-room : (c : tie.Start invariant-loop decreases-loop) → let word = c.args.word.now in Room c.args.out.now c.args.at (take (length word) word)
+room : (c : tie.Start invariant-loop-i decreases-loop-i) → let word = c.args.word.now in Room c.args.out.now c.args.at (take (length word) word)
 room c = room_as (take-length c.args.word.now) c.requires
 
-abbrev start : tie.In-loop invariant-loop decreases-loop → tie.Start invariant-loop decreases-loop
+abbrev start : tie.In-loop-i invariant-loop-i decreases-loop-i → tie.Start invariant-loop-i decreases-loop-i
 start c = c.before.before.before.before
 
 pub write_word_spec : {M : Type 1} → statement M
 write_word_spec =
     tie.close
-    (tie.spec invariant-loop decreases-loop
-    (λ c. written_none (word_turns _) (room c.before.before))  -- loop-holds
-    (λ c. search rules)  -- shared-slice-read-put
+    (tie.spec invariant-loop-i decreases-loop-i
+    (λ c. written_none (word_turns _) (room c.before.before))  -- loop-i-init
+    (λ c. search rules)  -- bounds-word-i
     (λ c κs.
     let turn = c.before.before in
-    omega (arith, (written_room (word_turns _) turn.before.loop.invariant turn.loop-test.true (room (start turn))).fits))  -- put-requires
-    (λ c. search rules)  -- add-i
-    (λ c. search rules)  -- loop-less
+    omega (arith, (written_room (word_turns _) turn.before.loop-i.invariant turn.loop-i-test.true (room (start turn))).fits))  -- put-next-requires
+    (λ c. search rules)  -- overflow_add-i
+    (λ c. search rules)  -- loop-i-smaller
     (λ c.
     let turn = c.before.before.before.before.before in
-    written_more (word_turns _) turn.before.loop.invariant turn.loop-test.true c.before.before.put.ensures)  -- loop-again
-    (λ c. length_wrote c.before.loop.invariant.wrote)  -- same-length
-    (λ c. wrote_as (take-length _) (written_done c.before.loop.invariant c.loop-test.false)))  -- returns
+    written_more (word_turns _) turn.before.loop-i.invariant turn.loop-i-test.true c.put-next.ensures)  -- loop-i-preserved
+    (λ c. length_wrote c.loop-i.invariant.wrote)  -- shape_of-out
+    (λ c. wrote_as (take-length _) (written_done c.loop-i.invariant c.loop-i-test.false)))  -- returns
