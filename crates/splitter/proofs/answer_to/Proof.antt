@@ -8,8 +8,8 @@ pub answer_to_spec : {M : Type 1} → statement M
 answer_to_spec =
     tie.close
     (tie.spec
-    (λ c. search rules)  -- cast-powers-of
-    (λ c κs. search rules)  -- powers-of-requires
-    (λ c κs. let (monic, good, long) = c.before.before.before.before.before.requires in (c.before.powers-of.ensures, good, long))  -- write-answer-requires
-    (λ c. search rules)  -- same-length
-    (λ c. c.before.before.write-answer.ensures))  -- returns
+    (λ c. search rules)  -- overflow_cast-s
+    (λ c κs. search rules)  -- powers_of-found-requires
+    (λ c κs. let (monic, good, long) = c.requires in (c.powers_of-found.ensures, good, long))  -- write_answer-requires
+    (λ c. search rules)  -- shape_of-out
+    (λ c. c.write_answer.ensures))  -- returns

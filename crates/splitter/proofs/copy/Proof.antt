@@ -10,33 +10,33 @@ use Rattle.splitter.proofs.copy.Statement.{statement}
 use Rattle.splitter.proofs.copy.Tie as tie
 
 -- the area is long enough where the sheet is read
-abbrev enough : tie.After-read-sheet → tie.Else1
+abbrev enough : tie.After-read_sheet-reading → tie.Else-area-lt-AREA
 enough c = c.before
 
-abbrev sheet : tie.After-read-sheet → List ℕ
+abbrev sheet : tie.After-read_sheet-reading → List ℕ
 sheet c = (enough c).before.before.before.args.sheet.now
 
-accepted : (c : tie.Else2) → let n = c.before.before in Read (sheet n) n.read-sheet.result
-accepted c = let n = c.before.before in read_accepted (sheet n) _ n.read-sheet.ensures c.if2.false
+accepted : (c : tie.Else-reading-ne0) → let n = c.before.before in Read (sheet n) n.read_sheet-reading.result
+accepted c = let n = c.before.before in read_accepted (sheet n) _ n.read_sheet-reading.ensures c.if-reading-ne0.false
 
 pub copy_spec : {M : Type 1} → statement M
 copy_spec =
     tie.close
     (tie.spec
     (λ c κs. search rules)  -- refused-requires
-    (λ c. called_refused (call_short _ _ c.before.if1.true) c.refused.ensures)  -- returns
-    (λ c κs. search rules)  -- read-sheet-requires
-    (λ c κs. search rules)  -- refused-requires-2
+    (λ c. called_refused (call_short _ _ c.if-area-lt-AREA.true) c.refused.ensures)  -- returns-then-area-lt-AREA
+    (λ c κs. search rules)  -- read_sheet-reading-requires
+    (λ c κs. search rules)  -- refused-requires-then-reading-ne0
     (λ c.
     let n = c.before.before.before in
-    let r = read_refused (sheet n) _ n.read-sheet.ensures c.before.if2.true in
-    called_refused (copy_refused _ _ (enough n).if1.false r.reading) c.refused2.ensures)  -- returns-2
+    let r = read_refused (sheet n) _ n.read_sheet-reading.ensures c.if-reading-ne0.true in
+    called_refused (copy_refused _ _ (enough n).if-area-lt-AREA.false r.reading) c.refused-then-reading-ne0.ensures)  -- returns-then-reading-ne0
     (λ c κs.
     let e = c.before.before in
-    ((accepted e).monic, (accepted e).well_formed_lem, (enough e.before.before).if1.false))  -- copy-to-requires
+    ((accepted e).monic, (accepted e).good, (enough e.before.before).if-area-lt-AREA.false))  -- copy_to-requires
     (λ c κs. search rules)  -- success-requires
-    (λ c. search rules)  -- same-length
+    (λ c. search rules)  -- shape_of-area
     (λ c.
     let e = c.before.before.before.before.before.before in
-    called_wrote (copy_given _ _ (enough e.before.before).if1.false (accepted e).reading) c.success.ensures
-    (search rules)))  -- returns-3
+    called_wrote (copy_given _ _ (enough e.before.before).if-area-lt-AREA.false (accepted e).reading) c.success.ensures
+    (search rules)))  -- returns

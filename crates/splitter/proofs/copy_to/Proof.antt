@@ -20,44 +20,44 @@ use Rattle.splitter.proofs.ReadCall.{wrote_first}
 use Rattle.splitter.proofs.copy_to.Statement.{statement}
 use Rattle.splitter.proofs.copy_to.Tie as tie
 
-abbrev start : tie.After-answer-to → tie.Start
+abbrev start : tie.After-answer_to-count → tie.Start
 start c = c.before.before.before.before
 
 -- what is lent on: the array up to the count
-own : (c : tie.After-answer-to) → take (c.answer-to.result - 0) c.answer-to.new.0 ≡ answer (plain (start c).args.s)
+own : (c : tie.After-answer_to-count) → take (c.answer_to-count.result - 0) c.answer_to-count.new.out ≡ answer (plain (start c).args.s)
 own c =
-    ap (λ (k : ℕ). take k c.answer-to.new.0) (let e : c.answer-to.result - 0 ≡ c.answer-to.result = omega arith in e)
-    ∙ wrote_first c.answer-to.ensures
+    ap (λ (k : ℕ). take k c.answer_to-count.new.out) (let e : c.answer_to-count.result - 0 ≡ c.answer_to-count.result = omega arith in e)
+    ∙ wrote_first c.answer_to-count.ensures
 
-abbrev answered : tie.After-sorted-pairs → tie.After-answer-to
-answered c = c.before.before.before.before
+abbrev answered : tie.After-sorted_pairs-pairs → tie.After-answer_to-count
+answered c = c.before.before.before
 
 -- what is written is the sheet's copy
-whole : (c : tie.After-sorted-pairs) → let s = (start (answered c)).args.s in
-    copy_of (as_figures s.prime s.degree c.sorted-pairs.result) ≡ copy (as_sheet s)
+whole : (c : tie.After-sorted_pairs-pairs) → let s = (start (answered c)).args.s in
+    copy_of (as_figures s.prime s.degree c.sorted_pairs-pairs.result) ≡ copy (as_sheet s)
 whole c =
     let begun = start (answered c) in
-    ap copy_of (figures_are begun.args.s begun.pre.0 c.sorted-pairs.result
-    (c.sorted-pairs.ensures.1 ∙ ap (λ (bytes : List ℕ). sorted (pairs_in bytes)) (own (answered c))))
+    ap copy_of (figures_are begun.args.s begun.requires.0 c.sorted_pairs-pairs.result
+    (c.sorted_pairs-pairs.ensures.1 ∙ ap (λ (bytes : List ℕ). sorted (pairs_in bytes)) (own (answered c))))
 
 pub copy_to_spec : {M : Type 1} → statement M
 copy_to_spec =
     tie.close
     (tie.spec
-    (λ c. search rules)  -- slice-aggregate-answer-to
-    (λ c κs. let begun = c.before.before.before in (begun.requires.0, plain_good begun.args.s begun.requires.1, search rules))  -- answer-to-requires
-    (λ c. search rules)  -- sub-sorted-pairs
-    (λ c. search rules)  -- part-sorted-pairs-start
-    (λ c. search rules)  -- part-sorted-pairs-end
+    (λ c. search rules)  -- slice_bounds-answer_to-end
+    (λ c κs. let begun = c.before.before.before in (begun.requires.0, plain_good begun.args.s begun.requires.1, search rules))  -- answer_to-count-requires
+    (λ c. search rules)  -- slice_bounds-sorted_pairs-count
+    (λ c. search rules)  -- slice_bounds-sorted_pairs-start
+    (λ c. search rules)  -- slice_bounds-sorted_pairs-end
     (λ c κs.
-    let answer = c.before.before.before in
+    let answer = c.before.before in
     let s = (start answer).args.s in (
       subst (λ (bytes : List ℕ). All WellFormed (commands bytes)) (sym (own answer)) (commands_whole (plain s)),
       subst (λ (bytes : List ℕ). length (pairs_in bytes) ≤ 32) (sym (own answer)) (pairs_fit (plain s) (plain_good s (start answer).requires.1)),
-    ))  -- sorted-pairs-requires
+    ))  -- sorted_pairs-pairs-requires
     (λ c κs.
     let sorted = c.before in
     let begun = start (answered sorted) in
-    (sorted.sorted-pairs.ensures.0, room_as (whole sorted) (copy_room begun.args.s begun.pre.1 begun.pre.2)))  -- write-copy-requires
-    (λ c. search rules)  -- same-length
-    (λ c. wrote_as (whole c.before.before.before.before) c.before.before.write_copy.ensures))  -- returns
+    (sorted.sorted_pairs-pairs.ensures.0, room_as (whole sorted) (copy_room begun.args.s begun.requires.1 begun.requires.2)))  -- write_copy-requires
+    (λ c. search rules)  -- shape_of-out
+    (λ c. wrote_as (whole c.before.before.before.before) c.write_copy.ensures))  -- returns

@@ -11,9 +11,9 @@ pub is_answer_spec : {M : Type 1} → statement M
 is_answer_spec =
     tie.close
     (tie.spec
-    (λ c. search rules)  -- slice-aggregate-answer-to
-    (λ c κs. search rules)  -- answer-to-requires
-    (λ c. search rules)  -- slice-aggregate-same-bytes
-    (λ c κs. search rules)  -- same-bytes-requires
-    (λ c. subst (λ l. Decides c.same_bytes.result (c.before.before.before.before.before.before.args.bytes.now ≡ l))
-    (wrote_first c.before.before.before.answer-to.ensures) c.same_bytes.ensures))  -- returns
+    (λ c. search rules)  -- slice_bounds-answer_to-end
+    (λ c κs. search rules)  -- answer_to-count-requires
+    (λ c. search rules)  -- slice_bounds-same_bytes-end
+    (λ c κs. search rules)  -- same_bytes-requires
+    (λ c. subst (λ l. Decides c.same_bytes.result (c.args.bytes.now ≡ l))
+    (wrote_first c.answer_to-count.ensures) c.same_bytes.ensures))  -- returns

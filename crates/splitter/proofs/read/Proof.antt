@@ -13,17 +13,17 @@ use Rattle.splitter.proofs.read.Statement.{statement}
 use Rattle.splitter.proofs.read.Tie as tie
 
 -- the area is long enough where a candidate is looked for
-abbrev enough : tie.After-find-candidate → tie.Else1
+abbrev enough : tie.After-find_candidate-c → tie.Else-area-lt-AREA
 enough c = c.before
 
-abbrev looked : tie.Then2 → tie.After-find-candidate
+abbrev looked : tie.Then-c → tie.After-find_candidate-c
 looked c = c.before
 
 -- where one is found
-good : (c : tie.Then2) → let s = (looked c).find-candidate.result.sheet in MonicModSquare s.prime s.coefs s.degree × GoodSheet (as_sheet s)
-good c = let h = (looked c).find-candidate.ensures in (h.sound c.if2.true, h.good c.if2.true)
+good : (c : tie.Then-c) → let s = (looked c).find_candidate-c.result.sheet in MonicModSquare s.prime s.coefs s.degree × GoodSheet (as_sheet s)
+good c = let h = (looked c).find_candidate-c.ensures in (h.sound c.if-c.true, h.good c.if-c.true)
 
-abbrev found : tie.Then3 → tie.Then2
+abbrev found : tie.Then-is_answer → tie.Then-c
 found c = c.before.before.before
 
 pub read_spec : {M : Type 1} → statement M
@@ -31,24 +31,24 @@ read_spec =
     tie.close
     (tie.spec
     (λ c κs. search rules)  -- refused-requires
-    (λ c. called_refused (read_short _ _ c.before.if1.true) c.refused.ensures)  -- returns
-    (λ c κs. search rules)  -- find-candidate-requires
-    (λ c κs. good c.before)  -- is-answer-requires
+    (λ c. called_refused (read_short _ _ c.if-area-lt-AREA.true) c.refused.ensures)  -- returns-then-area-lt-AREA
+    (λ c κs. search rules)  -- find_candidate-c-requires
+    (λ c κs. good c.before)  -- is_answer-requires
     (λ c κs.
     let f = found c.before in
-    (omega (arith, (good f).0.array.fits), sheet_room _ (good f).1 (omega (arith, (enough (looked f)).if1.false))))  -- write-sheet-requires
+    (omega (arith, (good f).0.array.fits), sheet_room _ (good f).1 (omega (arith, (enough (looked f)).if-area-lt-AREA.false))))  -- write_sheet-requires
     (λ c κs. search rules)  -- success-requires
-    (λ c. search rules)  -- same-length
+    (λ c. search rules)  -- shape_of-area-then-is_answer
     (λ c.
     let same = c.before.before.before.before.before in
     let n = looked (found same) in
-    let is = same.before.is-answer.ensures.yes same.if3.true in
-    called_wrote (read_found _ _ (enough n).if1.left n.find-candidate.ensures (found same).if2.true is)
-    c.success.ensures c.before.before.before.write-sheet.ensures)  -- returns-2
+    let is = same.before.is_answer.ensures.yes same.if-is_answer.true in
+    called_wrote (read_found _ _ (enough n).if-area-lt-AREA.false n.find_candidate-c.ensures (found same).if-c.true is)
+    c.success.ensures c.write_sheet.ensures)  -- returns-then-is_answer
     (λ c κs. search rules)  -- refused-requires-2
     (λ c.
     let n = c.before.before in
-    let long = (enough n).if1.false in
-    let h = n.find-candidate.ensures in
-    called_refused (⊎_elim (λ w. read_other _ _ long h (w.2.ensures.no w.3.left)) (λ w. read_none _ _ long h w.left) c.before.if2.branch)
-    c.refused2.ensures))  -- returns-3
+    let long = (enough n).if-area-lt-AREA.false in
+    let h = n.find_candidate-c.ensures in
+    called_refused (⊎_elim (λ w. read_other _ _ long h (w.is_answer.ensures.no w.if-is_answer.false)) (λ w. read_none _ _ long h w.if-c.false) c.if-c.branch-raw)
+    c.refused-2.ensures))  -- returns
