@@ -20,8 +20,8 @@ fn run<R: Read, W: Write>(input: &mut R, out: &mut W) -> bool
     let mut line = [0u8; 256];
     let got = read_full(input, &mut line);
     let mut area = [0u8; AREA];
-    let count = write_output(&mut area, &line[0..got.count]);
-    match out.write_all(&area[0..count]) {
+    let count = write_output(&mut area, &line[..got.count]);
+    match out.write_all(&area[..count]) {
         Ok(()) => !got.failed,
         Err(_) => false,
     }

@@ -18,9 +18,9 @@ returns-in-Ok g c well =
     let read = c.read_full-got.ensures in
     let wrote = wrote_from_start c.write_text-count.ensures in
     decided _ sheet_limit got.count c.read_full-got.new.buf
-        (λ xs ys l. subst (Appends _ _) (sym (printed_prefix xs ys l)))
-        (omega (arith, c.input-sheet.ensures, c.read_full-got.auto.buf))
-        read.count
-        (subst (Appends _ _) (ap (take _) wrote.1 ∙ take_at _ _ _ (sym wrote.0)) c.in-Ok.ensures.bytes)
-        _ _ read.bytes
-        (read.end (well_read got.failed well))
+    (λ xs ys l. subst (Appends _ _) (sym (printed_prefix xs ys l)))
+    (omega (arith, c.input-sheet.ensures, c.read_full-got.auto.buf))
+    read.count
+    (subst (Appends _ _) (ap (take _) wrote.1 ∙ take_at _ _ _ (sym wrote.0)) c.in-Ok.ensures.bytes)
+    _ _ read.bytes
+    (read.end (well_read got.failed well))
