@@ -7,29 +7,29 @@ use Rattle.sheet_output.specs.Sent.{sheet_sent, refusal_room, refusal_sent}
 use Rattle.sheet_output.proofs.write_output.Statement.{statement}
 use Rattle.sheet_output.proofs.write_output.Tie as tie
 
-abbrev start : tie.After-typed → tie.Start
+abbrev start : tie.After-typed-called → tie.Start
 start c = c.before.before.before.before
 
-abbrev line : tie.After-typed → List ℕ
+abbrev line : tie.After-typed-called → List ℕ
 line c = (start c).args.line.now
 
-abbrev refused : tie.Then1 → tie.After-typed
+abbrev refused : tie.Then-called-ne0 → tie.After-typed-called
 refused c = c.before.before.before.before
 
 pub write_output_spec : {M : Type 1} → statement M
 write_output_spec =
     tie.close
     (tie.spec
-    (λ c κs. search rules)  -- typed-requires
+    (λ c κs. search rules)  -- typed-called-requires
     (λ c κs.
     let called = refused c.before in
-    refusal_room (line called) (start called).pre called.typed.ensures c.before.if1.true)  -- refusal-text-requires
-    (λ c. search rules)  -- same-length
+    refusal_room (line called) (start called).requires called.typed-called.ensures c.if-called-ne0.true)  -- refusal_text-requires
+    (λ c. search rules)  -- shape_of-out-then-called-ne0
     (λ c.
     let then = c.before.before.before.before in
     let called = refused then in
-    refusal_sent (line called) (start called).pre called.typed.ensures then.if1.true c.before.before.refusal-text.ensures)  -- returns
-    (λ c. search rules)  -- same-length-2
+    refusal_sent (line called) (start called).requires called.typed-called.ensures then.if-called-ne0.true c.refusal_text.ensures)  -- returns-then-called-ne0
+    (λ c. search rules)  -- shape_of-out
     (λ c.
     let called = c.before.before.before.before in
-    sheet_sent (line called) (start called).requires called.type-inv.ensures c.if1.false))  -- returns-2
+    sheet_sent (line called) (start called).requires called.typed-called.ensures c.if-called-ne0.false))  -- returns
