@@ -2,8 +2,9 @@
 // A polynomial is printed by its coefficients, constant first; zero has none.
 #![tactic(auto)]
 
-use libc::STDOUT_FILENO;
 use polynomial::Poly;
+use std::io;
+use std::io::{BufWriter, Write};
 
 // x + c modulo 9.
 fn linear(c: u16) -> Poly {
@@ -16,32 +17,34 @@ fn linear(c: u16) -> Poly {
     }
 }
 
-fn print(title: &[u8], a: Poly) {
-    io::write_all(STDOUT_FILENO, title);
+fn print<W: Write>(out: &mut W, title: &[u8], a: Poly) -> io::Result<()> {
+    out.write_all(title)?;
     let coefs = a.coefs;
     let terms = arrays::size(coefs);
     let mut i: usize = 0;
     while i < terms {
-        io::write_all(STDOUT_FILENO, b" ");
-        io::print_decimal(STDOUT_FILENO, wide(coefs[i]));
+        let c = wide(coefs[i]);
+        write!(out, " {c}")?;
         i += 1;
     }
-    io::write_all(STDOUT_FILENO, b"\n");
+    out.write_all(b"\n")
 }
 
 fn wide(c: u16) -> u64 {
     c as u64
 }
 
-fn main() {
+fn main(rt: HostRuntime) -> io::Result<()> {
+    let mut out = BufWriter::new(rt.alloc(), io::writer(&rt))?;
     let square = polynomial::mul(linear(1), linear(1));
     let f = square.poly;
     let product = polynomial::mul(f, linear(4));
     let g = product.poly;
-    print(b"(x + 1)(x + 1)(x + 4):", g);
+    print(&mut out, b"(x + 1)(x + 1)(x + 4):", g)?;
     let division = polynomial::divide(g, linear(4));
     let q = division.quotient;
     let r = division.remainder;
-    print(b"divided by x + 4:", q);
-    print(b"remainder:", r);
+    print(&mut out, b"divided by x + 4:", q)?;
+    print(&mut out, b"remainder:", r)?;
+    out.flush()
 }

@@ -3,8 +3,9 @@
 #![tactic(auto)]
 
 use arrays::Coefs;
-use libc::STDOUT_FILENO;
 use polynomial::Poly;
+use std::io;
+use std::io::Write;
 
 // The length of the arrays of which a call is lent a part: its input, and its answer area.
 pub const AREA: usize = 1024;
@@ -107,15 +108,17 @@ impl Line {
         line
     }
 
-    pub fn print(self) {
+    pub fn print<W: Write>(self, out: &mut W) -> io::Result<()> {
         let bytes = self.bytes;
-        write(&bytes, self.len)
+        write(out, &bytes, self.len)
     }
 }
 
-fn write(bytes: &[u8], len: usize) {
+fn write<W: Write>(out: &mut W, bytes: &[u8], len: usize) -> io::Result<()> {
     if len <= bytes.len() {
-        io::write_all(STDOUT_FILENO, &bytes[0..len]);
+        out.write_all(&bytes[0..len])
+    } else {
+        Ok(())
     }
 }
 
@@ -181,22 +184,26 @@ fn kept(area: [u8; AREA], count: usize) -> bool {
 }
 
 // The line of a call: number, place, count, the bytes written, and the word `changed` if a byte past them is not what it was.
-pub fn print_call(number: u8, place: usize, count: usize, area: [u8; AREA]) {
+pub fn print_call<W: Write>(
+    out: &mut W,
+    number: u8,
+    place: usize,
+    count: usize,
+    area: [u8; AREA],
+) -> io::Result<()> {
     Line::empty()
         .outcome(number, place)
         .next(small(count))
         .written(area, count)
-        .print();
+        .print(out)?;
     if kept(area, count) {
-        io::write_all(STDOUT_FILENO, b"\n");
+        out.write_all(b"\n")
     } else {
-        io::write_all(STDOUT_FILENO, b" changed\n");
+        out.write_all(b" changed\n")
     }
 }
 
 // The last line.
-pub fn print_cases(cases: u64) {
-    io::write_all(STDOUT_FILENO, b"cases ");
-    io::print_decimal(STDOUT_FILENO, cases);
-    io::write_all(STDOUT_FILENO, b"\n");
+pub fn print_cases<W: Write>(out: &mut W, cases: u64) -> io::Result<()> {
+    writeln!(out, "cases {cases}")
 }

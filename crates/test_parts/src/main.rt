@@ -9,10 +9,12 @@ ghost use Rattle.polynomial.specs.AsRecord.{as_record};
 ghost use Rattle.test_parts.specs.HasParts.{HasParts};
 
 use arrays::{Coefs, size};
-use libc::STDIN_FILENO;
 use part_verdict::{Factor, Part, Verdict};
 use parts::{next_part, powers_of};
 use polynomial::{Poly, leading, proper};
+use std::io;
+use std::io::{BufReader, BufWriter, Read, Write};
+use streams::read_full;
 use test_cases::{Line, print_cases, record, small};
 
 // ` :` and the coefficients of a polynomial of the degree.
@@ -49,18 +51,18 @@ fn begun(part: Part) -> Line {
 }
 
 // The second factor counts only where the verdict is split.
-fn print_part(part: Part) {
+fn print_part<W: Write>(out: &mut W, part: Part) -> io::Result<()> {
     let verdict = part.verdict;
     let first = part.first;
     let second = part.second;
     let line = with_factor(begun(part), first);
     match verdict {
-        Verdict::Split(_) => with_factor(line, second).print(),
-        _ => line.print(),
+        Verdict::Split(_) => with_factor(line, second).print(out),
+        _ => line.print(out),
     }
 }
 
-fn print_parts(f: Coefs, d: usize, p: u16)
+fn print_parts<W: Write>(out: &mut W, f: Coefs, d: usize, p: u16) -> io::Result<()>
     requires { MonicModSquare p f d }
 {
     let found = powers_of(f, d, p);
@@ -72,11 +74,12 @@ fn print_parts(f: Coefs, d: usize, p: u16)
         let next = next_part(rest, e, x, p);
         let part = next.part;
         let left = next.rest;
-        print_part(part);
+        print_part(out, part)?;
         rest = left;
         e = next.degree;
         i += 1;
     }
+    Ok(())
 }
 
 // 10, 13 or 5; 0 where the record has parts.
@@ -95,27 +98,36 @@ fn judged(a: Poly) -> u8
     }
 }
 
-fn work(bytes: [u8; 67]) {
+fn work<W: Write>(out: &mut W, bytes: [u8; 67]) -> io::Result<()> {
     let a = record(bytes);
     let number = judged(a);
-    Line::empty().outcome(number, 0).print();
+    Line::empty().outcome(number, 0).print(out)?;
     if number == 0 {
         let f = a.coefs;
-        print_parts(f, size(f) - 1, a.prime as u16);
+        print_parts(out, f, size(f) - 1, a.prime as u16)?;
     }
-    Line::empty().byte(10).print()
+    Line::empty().byte(10).print(out)
 }
 
-fn main() {
+// Works the records up to the end of the input, and says how many there were.
+fn work_cases<R: Read, W: Write>(input: &mut R, out: &mut W) -> io::Result<u16> {
     let mut cases: u16 = 0;
     while cases < 65535 {
         let mut bytes = [0u8; 67];
-        let got = io::read_full(STDIN_FILENO, &mut bytes);
-        if got < 67 {
+        let got = read_full(input, &mut bytes);
+        if got.count < 67 {
             break;
         }
-        work(bytes);
+        work(out, bytes)?;
         cases += 1;
     }
-    print_cases(cases as u64)
+    Ok(cases)
+}
+
+fn main(rt: HostRuntime) -> io::Result<()> {
+    let mut input = BufReader::new(rt.alloc(), rt.reader())?;
+    let mut out = BufWriter::new(rt.alloc(), io::writer(&rt))?;
+    let cases = work_cases(&mut input, &mut out)?;
+    print_cases(&mut out, cases as u64)?;
+    out.flush()
 }
