@@ -78,7 +78,7 @@ module _ {A B : Type 0} {𝓐 : CommRing A} {𝓑 : CommRing B} {bar : A → B} 
 
   module _ {Monic : A → Type 0} (M : Monics 𝓐 Monic) {Q : List (Part E)} (apart : Apart E Q)
       {L : List A} (l : LongestList E Q L) (monic : All Monic L) where
-    -- inside·outside = P-as-C, each coprime to the other's cofactor
+    -- inside·outside = P·C, each coprime to the other's cofactor
     pub block_product : (q : Part E) → q ∈ Q → Monic q.P → (b : Block q L) → product 𝓐 b.inside ≡ q.P
     block_product q i monicP b =
         M.equal (monic_product M b.inside (λ x j. monic x (b.members x j).0)) monicP (

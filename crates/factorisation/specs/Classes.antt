@@ -1,5 +1,5 @@
 -- The class of g in a list of factors: the members whose bar is divisible by that of g, a prime element.
--- Proves, of a list L with product P-as-C, where P = g^m + π·h and the bar of C is coprime to the bar G of g: at most m members are in the
+-- Proves, of a list L with product P·C, where P = g^m + π·h and the bar of C is coprime to the bar G of g: at most m members are in the
 -- class (Aa); where k + 1 are, G^k divides the bar of h (Ab); so at most s are (A). Assumes nothing.
 use Rattle.std.specs.Prelude.{◌≡◌, refl, ◌⊎◌, List, [], ◌∷◌, ℕ, zero, suc, ◌≤◌}
 use Rattle.std.proofs.Common.{sym, ◌∙◌, ap, ap₂, ⊎_elim, arith}

@@ -1,5 +1,5 @@
 -- Lifting a factorisation into coprime factors along a square-zero extension of the coefficients.
--- Proves that f = a·b with monic a, b wherever the bar of f is A-as-B with A monic and coprime to B, that such factors are unique, and that a
+-- Proves that f = a·b with monic a, b wherever the bar of f is A·B with A monic and coprime to B, that such factors are unique, and that a
 -- monic divisor of f is determined by its bar where that is coprime to the cofactor's. Assumes nothing.
 use Rattle.std.specs.Prelude.{◌≡◌, ◌≢◌, ℕ}
 use Rattle.std.proofs.Common.{sym, ◌∙◌, ap, ap₂}

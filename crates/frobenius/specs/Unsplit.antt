@@ -1,5 +1,5 @@
 -- Polynomials Q over ℤ/p, p a prime, that have no splitting element: Q divides v^p − v for no v of lower degree with constant term 𝟘, but 𝟎.
--- Proves that such a Q is not a product A-as-B of coprime factors of degree 1 or more: the v that is 𝟏 modulo A and 𝟎 modulo B, less its constant
+-- Proves that such a Q is not a product A·B of coprime factors of degree 1 or more: the v that is 𝟏 modulo A and 𝟎 modulo B, less its constant
 -- term, would be a splitting element. Assumes nothing.
 use Rattle.std.specs.Prelude.{◌≡◌, refl, ◌≢◌, ℕ, zero, suc, ◌≤◌, ◌-◌}
 use Rattle.std.proofs.Common.{sym, ◌∙◌, ap, arith}

@@ -25,7 +25,7 @@ use Rattle.part_lift.specs.Correction.{Correction}
 use Rattle.part_lift.specs.Cuttable.{Cuttable, large, base_bar}
 use Rattle.part_lift.specs.FirstDivision.{left_over}
 
--- f = P-as-A modulo p², where P has the bar of b, and A that of what b leaves
+-- f = P·A modulo p², where P has the bar of b, and A that of what b leaves
 pub record CutOff (p : ℕ) (f : List ℕ) (e : ℕ) (b : List ℕ) (n : ℕ) (P A : List ℕ) : Type 0 where
   pub part : MonicArray (p ²) n P
   pub rest : MonicArray (p ²) (e - n) A

@@ -1,7 +1,7 @@
 -- What is given out for a typed line: `Sent line old new r`, from the start of the area old stands what `SheetSent` says of the line, r bytes long.
 -- Proves this of a call that wrote a sheet, and of one that was turned back, once the line of its refusal is written; and that what follows the first 256
 -- bytes changes nothing. Assumes nothing.
-use Rattle.std.specs.Prelude.{◌≡◌, refl, ◌⊎◌, ◌≢◌, List, ◌++◌, ℕ, ◌≤◌, ◌<◌, ◌+◌, length}
+use Rattle.std.specs.Prelude.{◌≡◌, refl, ◌⊎◌, ◌≢◌, List, ◌++◌, ℕ, ◌≤◌, ◌<◌, length}
 use Rattle.std.proofs.Common.{sym, ◌∙◌, ap, ap₂, subst, inl, inr, le_refl, arith, eq-eqb, ne_eqb, length-append}
 use Rattle.specification.specs.Limits.{answer_area, line_limit}
 use Rattle.specification.specs.Calls as calls
