@@ -1,7 +1,7 @@
 -- An array in which one entry is changed: at i there is c more, modulo n.
 -- Proves that it holds the polynomial with c·x^i more (`term_added`; `term_set`, where there was 0), and that zeros with c stored at 0 hold c. Assumes nothing.
 use Rattle.std.specs.Prelude.{◌≡◌, List, [], ◌∷◌, ◌≢◌, ℕ, zero, suc, ◌<◌, get_or, set, replicate}
-use Rattle.std.proofs.Common.{sym, ◌∙◌, ap, ap₂, subst, ⊎_elim, arith, length-set, get_or-set_same, get_or-set_other}
+use Rattle.std.proofs.Common.{sym, ◌∙◌, ap, subst, ⊎_elim, arith, length-set, get_or-set_same, get_or-set_other}
 use Rattle.std.proofs.Math.Decide.{ℕ_discrete}
 use Rattle.std.proofs.lemmas.List.{length-replicate}
 use Rattle.algebra.specs.Numbers.{lt_or_le}

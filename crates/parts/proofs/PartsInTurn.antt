@@ -3,7 +3,7 @@
 -- Proves that the part over the next power, when it is found, is the next of the definition's, and what is left then. Assumes nothing.
 use mathlib.Core.Path.{◌≡◌, sym, ◌∙◌, ap, ap₂, subst, subst₂}
 use mathlib.Core.List.{List, ◌∷◌}
-use Prim.Native.Nat.{ℕ, suc, ◌+◌, ◌*◌, ◌<◌}
+use Prim.Native.Nat.{ℕ, suc, ◌+◌, ◌<◌}
 use native.Mathlib.Numerals.{add-one}
 use native.Mathlib.Omega.{arith}
 use lib.ListN.{length, get_or, drop, length-map, get_or-map}
@@ -14,7 +14,6 @@ use Rattle.specification.specs.Parts as parts
 use Rattle.specification.specs.Limits.{◌²}
 use Rattle.lists.specs.Members.{◌∈◌, entry_member}
 use Rattle.algebra.specs.Divisibility.{◌∣◌, divides_refl, divides_trans}
-use Rattle.algebra.specs.PolynomialRing.{◌·◌}
 use Rattle.algebra.specs.Fields.{Prime}
 use Rattle.algebra.specs.CoefficientLists.{poly, 𝓩[x]/}
 use Rattle.arrays.specs.Listed.{listed}

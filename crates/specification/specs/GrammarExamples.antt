@@ -1,12 +1,12 @@
 -- Lines of `Grammar` with their readings, each derived rule by rule: the order of differences, which sign binds first, the order of factors, the line of the
 -- request, and a number of two digits. `TypedTrials` has more lines, with their outcomes.
 -- Proves that these lines are read so. Assumes nothing.
-use Rattle.std.specs.Prelude.{◌≡◌, refl, List, ℕ, suc, ◌+◌, ◌*◌, T, ltb, length, get_or}
+use Rattle.std.specs.Prelude.{◌≡◌, refl, List, ℕ, suc, ◌+◌, T, ltb, length, get_or}
 use Rattle.std.proofs.Common.{le_refl, arith, leb→le}
-use Rattle.specification.specs.Grammar.{Tree, number, variable, power, times, plus, minus}
-use Rattle.specification.specs.Grammar.{blank_sign, open_sign, close_sign, zero_sign, x_sign, At, Blanks, Between, Number, first_digit, next_digit}
-use Rattle.specification.specs.Grammar.{Expression, one_product, sum, difference, one_power, product, Power, one_term, raised}
-use Rattle.specification.specs.Grammar.{Term, digits, x, brackets, Line, line}
+use Rattle.specification.specs.Grammar.{number, variable, power, times, plus, minus}
+use Rattle.specification.specs.Grammar.{blank_sign, zero_sign, x_sign, At, Blanks, Between, Number, first_digit, next_digit}
+use Rattle.specification.specs.Grammar.{one_product, sum, difference, one_power, product, Power, one_term, raised}
+use Rattle.specification.specs.Grammar.{digits, x, brackets, Line, line}
 use Rattle.specification.specs.Text.{ascii}
 
 -- ---- signs: with a line given, `tt` says that the place is inside, and `refl` that the byte is there

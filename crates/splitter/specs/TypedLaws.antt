@@ -1,7 +1,7 @@
 -- What request 3 of document 02 says of the call that makes a sheet of a typed line: of the number, the place, the count and the area that it gives back.
 -- Proves which numbers and places there are, each in its case and in no other; that a line passes 15 exactly where the grammar gives it; which lines get a
 -- sheet, and which; that nothing else decides what comes back; and that a split of the sheet has term 3 for the polynomial that was typed. Assumes nothing.
-use Rattle.std.specs.Prelude.{◌≡◌, refl, ◌⊎◌, ◌≢◌, ◌↔◌, List, [], ◌∷◌, ℕ, ◌≤◌, ◌<◌, length}
+use Rattle.std.specs.Prelude.{◌≡◌, refl, ◌⊎◌, ◌≢◌, ◌↔◌, List, [], ◌∷◌, ℕ, ◌≤◌, length}
 use Rattle.std.proofs.Common.{sym, ◌∙◌, ap, subst, inl, inr, ⊎_elim, arith}
 use Rattle.specification.specs.Limits.{answer_area, line_limit}
 use Rattle.specification.specs.Sheets.{accepted, read_sheet}
@@ -9,7 +9,7 @@ use Rattle.specification.specs.Calls as calls
 use Rattle.specification.specs.Calls.{split_call}
 use Rattle.specification.specs.Term3.{LongestIn}
 use Rattle.specification.specs.Grammar.{Tree, Line}
-use Rattle.specification.specs.TypedLines.{NoLine, Typed, short_area, long_line, no_line, is_line, worked}
+use Rattle.specification.specs.TypedLines.{NoLine, Typed, short_area, long_line, no_line, is_line}
 use Rattle.specification.specs.TypedClaims.{SheetOfLine, typed_sheet, TooLarge, PrimeNotTaken, NoPattern}
 use Rattle.grammar.specs.TypedOutcomes.{typed_once, typed_numbers, Worked, worked_success, worked_4, worked_16, worked_17, worked_cases}
 use Rattle.grammar.specs.TypedSheets.{line_sheet}

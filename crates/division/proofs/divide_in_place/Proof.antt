@@ -59,7 +59,7 @@ divide_in_place_spec =
     let inv = c.before.before.before.loop-i.invariant in
     let low = inv.remainder.low (c.before.before.before.loop-i.i - 1) in
     let by = monic_by_one c.before.before.before.before.before.before.before.before.requires.6 in
-    division_passed _ _ _ by _ _ _ _ _ _ (search rules) (search rules) (once low) low c.if-c-ne0.false inv)  -- loop-i-preserved
+    division_passed _ _ _ by _ _ _ _ _ _ (search rules) (search rules) (once low) low (search rules) inv)  -- loop-i-preserved
     (λ c. c.before.loop-i.invariant.remainder.len ∙ sym c.before.before.before.before.before.before.requires.0.len)  -- shape_of-a
     (λ c.
     let zero = c.before.before.before.before.before.before.requires.1 in

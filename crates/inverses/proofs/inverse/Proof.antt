@@ -17,12 +17,12 @@ inverse_spec =
     (tie.spec
     (λ c κs. search rules)  -- place-row-requires
     (λ c. no_answer _ _ (λ t z l. contrary (not_placed c.before.place-row.ensures c.if-row-ge54.true) t))  -- returns-then-row-ge54
-    (λ c. no_answer _ _ (λ t z l. absurd (omega (arith, c.if-a-eq0.true))))  -- returns-then-a-eq0
+    (λ c. no_answer _ _ (λ t z l. absurd (omega arith)))  -- returns-then-a-eq0
     (λ c κs.
     let within = c.before.before.if-row-ge54.false in
     let at = placed c.before.before.before.place-row.ensures within in
-    (within, pos_of_ne-zero c.before.if-a-eq0.false, rw at.1 c.if-a-prime.true))  -- entry_at-requires
+    (within, omega arith, rw at.1 c.if-a-prime.true))  -- entry_at-requires
     (λ c.
     let at = placed c.before.before.before.before.place-row.ensures c.before.before.before.if-row-ge54.false in
-    entry_answer _ _ _ at.0 (pos_of_ne-zero c.before.before.if-a-eq0.false) c.before.if-a-prime.true (rw at.1 at c.entry_at.ensures))  -- returns-then-a-prime
+    entry_answer _ _ _ at.0 (omega arith) c.before.if-a-prime.true (rw at.1 at c.entry_at.ensures))  -- returns-then-a-prime
     (λ c. no_answer _ _ (λ t z l. absurd (omega (arith, c.if-a-prime.false)))))  -- returns-else-a-prime

@@ -17,8 +17,8 @@ add_product_spec =
     tie.close
     (tie.spec
     (λ c. omega (arith, upper_half _ _ c.before.requires.0, div-le_self 65535 c.before.args.n))  -- overflow_cast-w
-    (λ c. omega (arith, narrow c.before c.if-n-lt256.true))  -- overflow_mul-c
-    (λ c. omega (arith, narrow c.before c.if-n-lt256.true))  -- overflow_add-y
+    (λ c. omega (arith, narrow c.before (omega arith)))  -- overflow_mul-c
+    (λ c. omega (arith, narrow c.before (omega arith)))  -- overflow_add-y
     (λ c κs. (search rules, upper_half _ _ c.before.requires.0))  -- reduce_narrow-requires
     (λ c. omega (arith, product_width c.before.args.c c.before.args.z (omega arith) (omega arith)))  -- overflow_mul-c-else-n-lt256
     (λ c. omega (arith, product_width c.before.args.c c.before.args.z (omega arith) (omega arith)))  -- overflow_add-y-else-n-lt256

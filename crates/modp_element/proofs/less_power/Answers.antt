@@ -1,0 +1,14 @@
+-- `modp_element::less_power` meets its contract.
+-- Assumes nothing.
+use native.Mathlib.Omega.{arith}
+use borrow.Author.Rules.{rules}
+use Rattle.modp_element.specs.Images.{less_power}
+use Rattle.modp_element.proofs.less_power.Goals as goal
+
+pub less_one-requires : goal.less_one-requires
+less_one-requires c = c.requires.2.low _
+
+pub returns : goal.returns
+returns c =
+    let (large, fits, reduced) = c.requires in
+    less_power _ _ (omega (arith, large)) reduced fits c.less_one.ensures
