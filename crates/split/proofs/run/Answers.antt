@@ -1,16 +1,12 @@
 -- What was written is the text of what was read, which is the text of the whole input.
-use Rattle.std.proofs.Common.{◌≡◌, refl, sym, ◌∙◌, ap, subst, arith, Bool, true, false, take, take_at}
-use mathlib.Core.Bool.{not}
+use Rattle.std.proofs.Common.{sym, ◌∙◌, ap, subst, arith, take, take_at}
+use Rattle.std.proofs.lemmas.Bool.{not-true}
 use Rattle.std.specs.Io.KnownBytes.{Appends}
 use Rattle.specification.specs.SheetClaims.{sheet_limit}
 use Rattle.area.specs.Wrote.{wrote_from_start}
 use Rattle.split_text.specs.Printed.{printed_prefix}
 use Rattle.streams.proofs.Decided.{decided}
 use Rattle.split.proofs.run.Goals as goal
-
-well_read : (failed : Bool) → not failed ≡ true → failed ≡ false
-well_read true e = sym e
-well_read false e = refl
 
 pub returns-in-Ok : goal.returns-in-Ok
 returns-in-Ok g c well =
@@ -23,4 +19,4 @@ returns-in-Ok g c well =
     read.count
     (subst (Appends _ _) (ap (take _) wrote.1 ∙ take_at _ _ _ (sym wrote.0)) c.in-Ok.ensures.bytes)
     _ _ read.bytes
-    (read.end (well_read got.failed well))
+    (read.end (not-true got.failed well))
