@@ -80,7 +80,7 @@ least_dependency_spec =
     let loop = begun.before.before.before.loop-i in
     let left = loop.invariant.1.reduced begun.before.if-fresh.false in
     let prime = begun.before.before.before.before.requires.0 in
-    let slot = free_slot prime (loop.k - 1) loop.invariant.0 (search rules) c.if-rows-k-eq0.true in (
+    let slot = free_slot prime (loop.k - 1) loop.invariant.0 (search rules) (omega arith) in (
       prime,
       pos_of_ne-zero begun.if-k-eq0.false,
       search rules,
@@ -102,8 +102,8 @@ least_dependency_spec =
     let fits = loop.invariant.1.limit in
     let slots = loop.invariant.0.slots in
     let stored = row_stored (omega (arith, slots.0, fits, pos)) (omega (arith, slots.1, fits, pos)) c.store.ensures in
-    let free = c.if-rows-k-eq0.true in (
-      searching_more turn.before.before.requires.0 turn.loop-i-test.true loop.invariant.0 left pos free stored,
+    (
+      searching_more turn.before.before.requires.0 turn.loop-i-test.true loop.invariant.0 left pos (omega arith) stored,
       none_in_hand fits,
     ))  -- loop-i-preserved-then-rows-k-eq0
     (λ c.
@@ -131,7 +131,7 @@ least_dependency_spec =
       left.size,
       left.preimage,
       row,
-      slot_filled loop.rows (loop.k - 1) (stage.slots (loop.k - 1)) row c.if-rows-k-eq0.false,
+      slot_filled loop.rows (loop.k - 1) (stage.slots (loop.k - 1)) row (omega arith),
       preimage,
       (stage.preimage (loop.k - 1)).below,
     ))  -- take_off-k-requires

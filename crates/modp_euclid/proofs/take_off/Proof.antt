@@ -64,7 +64,7 @@ take_off_spec =
     let coefficient = c.times-c.ensures in
     let by = monic_by_inverse start.requires.0 start.requires.5 begun.before.inverse-unit.ensures.1 in
     taking_passed by (loop.i - 1 - start.args.e) (search rules) (search rules) coefficient.0 coefficient.1 loop.invariant
-    c.if-c-ne0.false)  -- loop-i-preserved
+    (omega arith))  -- loop-i-preserved
     (λ c κs.
     let h = c.requires in
     let left = c.loop-i.invariant.division in (

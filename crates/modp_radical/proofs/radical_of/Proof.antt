@@ -25,14 +25,14 @@ radical_of_spec =
       h.3,
       h.4,
       h.5.below,
-      derivative_zero _ c.derivative-v.ensures c.size_below.ensures c.if-size_below-eq0.true,
+      derivative_zero _ c.derivative-v.ensures c.size_below.ensures (omega arith),
     ))  -- root-h-requires
     (λ c. omega (arith, prime_pos c.requires.0))  -- nonzero_div-result
     (λ c.
     let h = c.requires in
     let r = c.root-h.ensures in
     radical_root h.0 h.2 _ h.5 c.derivative-v.ensures c.size_below.ensures
-    c.if-size_below-eq0.true r.0 r.1)  -- returns-then-size_below-eq0
+    (omega arith) r.0 r.1)  -- returns-then-size_below-eq0
     (λ c κs.
     let h = c.requires in
     let D = c.derivative-v.ensures in
@@ -48,7 +48,7 @@ radical_of_spec =
     let D = c.derivative-v.ensures in
     let size = c.size_below.ensures in
     let g = c.common_divisor-g.ensures in
-    let Q = derivative_quotient h.0 h.2 _ h.5 D size c.if-size_below-eq0.false g c.divide-t.ensures in (
+    let Q = derivative_quotient h.0 h.2 _ h.5 D size (omega arith) g c.divide-t.ensures in (
       h.0,
       Q.positive,
       record { fits = omega (arith, h.3); reduced = Q.reduced; monic = Q.monic },
@@ -59,5 +59,5 @@ radical_of_spec =
     let h = e.before.before.before.before.before.before.before.before.before.requires in
     let D = e.before.before.before.before.before.before.before.before.derivative-v.ensures in
     let size = e.before.before.before.before.before.before.size_below.ensures in
-    radical_quotient h.0 h.2 _ h.5 D size e.before.before.before.before.before.if-size_below-eq0.false
+    radical_quotient h.0 h.2 _ h.5 D size (omega arith)
     e.before.before.before.before.common_divisor-g.ensures e.before.before.divide-t.ensures c.lowest.ensures))  -- returns

@@ -30,7 +30,7 @@ divide_linear_out_spec =
     (pre.1, pre.3, omega (arith, dividing_least D, D.reduced.len), D.reduced.low, rw add-one D.monic.below))  -- divide_linear-r-requires
     (λ c.
     dividing_stops c.loop-e.invariant
-    (linear_not_divides c.divide_linear-r.ensures c.if-r-ne0.true))  -- returns-then-r-ne0
+    (linear_not_divides c.divide_linear-r.ensures (omega arith)))  -- returns-then-r-ne0
     (λ c. search rules)  -- overflow_sub-e
     (λ c. omega (arith, dividing_times c.loop-e.invariant (omega arith)))  -- overflow_add-k
     (λ c. search rules)  -- loop-e-smaller
@@ -38,5 +38,5 @@ divide_linear_out_spec =
     let D = c.loop-e.invariant in
     let Q = c.divide_linear-r.ensures in
     dividing_once D c.requires.0 (monic_linear (residue _ _)) (quotient_reduced Q D.reduced)
-    (linear_exact Q c.if-r-ne0.false))  -- loop-e-preserved
+    (linear_exact Q (omega arith)))  -- loop-e-preserved
     (λ c. dividing_done c.loop-e.invariant c.requires.0 (monic_linear (residue _ _)) (omega (arith, c.loop-e-test.false))))  -- returns

@@ -39,16 +39,16 @@ run_length_spec =
     (λ c. omega (arith, c.loop-j.invariant.last))  -- overflow_mul-k
     (λ c. omega (arith, c.loop-j.invariant.last))  -- overflow_add-k
     (λ c. omega (arith, c.loop-j.invariant.first, c.meeting-i.ensures.none.within))  -- overflow_sub-k
-    (λ c. omega (arith, c.if-k-le65535.true))  -- overflow_cast-result
+    (λ c. omega arith)  -- overflow_cast-result
     (λ c.
     let pre = c.requires in
     let inv = c.loop-j.invariant in
-    run_met pre.0 inv c.meeting-i.ensures c.if-i-gt0.true pre.1 c.if-k-le65535.true)  -- returns-then-k-le65535
+    run_met pre.0 inv c.meeting-i.ensures c.if-i-gt0.true pre.1 (omega arith))  -- returns-then-k-le65535
     (λ c.
     let given = c.requires.0 in
     let inv = c.loop-j.invariant in
     let last = c.loop-j-test.true in
-    run_too_long given inv c.meeting-i.ensures c.if-i-gt0.true (omega (arith, last)) c.if-k-le65535.false)  -- returns-then-i-gt0
+    run_too_long given inv c.meeting-i.ensures c.if-i-gt0.true (omega (arith, last)) (omega arith))  -- returns-then-i-gt0
     (λ c. search rules)  -- slice_bounds-great_step-end
     (λ c κs.
     let given = c.requires.0 in

@@ -19,7 +19,7 @@ start c = c.before.before.before
 -- the command's bytes
 command : (c : tie.After-coefficient_code-code) → let a = (start c).args in
     c.coefficient_code-code.result ∷ a.i ∷ value_bytes a.p a.v ≡ coefficient_bytes a.p a.i (a.v ∷ [])
-command c = let a = (start c).args in command_is a.p a.i a.v c.before.if-v-eq0.false c.coefficient_code-code.ensures
+command c = let a = (start c).args in command_is a.p a.i a.v (omega arith) c.coefficient_code-code.ensures
 
 room : (c : tie.After-coefficient_code-code) → let a = (start c).args in
     Room a.out.now a.at (c.coefficient_code-code.result ∷ a.i ∷ value_bytes a.p a.v)
@@ -33,7 +33,7 @@ write_coefficient_spec =
     (λ c. omega (arith, (room c.before).low _ (there (here refl))))  -- overflow_cast-i
     (λ c κs. omega (arith, (room c.before).fits))  -- put_two-next-requires
     (λ c κs. room_next (_ ∷ _ ∷ []) _ (room c.before.before.before.before.before) c.before.before.before.put_two-next.ensures)  -- write_value-requires
-    (λ c. wrote_zero _ _ _ _ _ c.if-v-eq0.true c.before.before.requires)  -- returns-then-v-eq0
+    (λ c. wrote_zero _ _ _ _ _ (omega arith) c.before.before.requires)  -- returns-then-v-eq0
     (λ c. search rules)  -- shape_of-out
     (λ c.
     let after_two = c.before.before.before.before.before.before in
