@@ -1,5 +1,5 @@
 -- Taken primes, as the contracts have them: `taken p ≡ true`.
--- Proves that the taken primes are the primes that fit a byte, 54 of them, that the square of one is over 1 and has 16 bits, and which squares have
+-- Proves that they are primes that fit a byte, 54 of them, that the square of one is over 1 and has 16 bits, and which squares have
 -- numbers of one byte below them. Assumes nothing.
 use Rattle.std.specs.Prelude.{◌≡◌, refl, Bool, true, false, ◌⊎◌, ◌≢◌, ◌↔◌, ℕ, zero, suc, ◌≤◌, ◌<◌, ◌*◌, ◌/◌, ◌%◌, length, get_or}
 use Rattle.std.proofs.Common.{sym, ◌∙◌, ap, subst, inl, inr, ⊎_elim, zero-le, zero-mul, one-mul, mul-le-mul, mul-le-mul_left, div-add-mod', arith, leb-false}
@@ -62,13 +62,6 @@ number_prime {p} P = record { large = P.large; undivided = undivided }
       where
         whole : p / a * a ≡ p
         whole = omega (arith, div-add-mod' p a, e)
-
--- "All 54 primes below 256 are taken", and no other number
-pub taken_exactly : (p : ℕ) → T (taken p) ↔ (PrimeNumber p × (p < 256))
-taken_exactly p = (
-  λ t. (prime_number_lem (taken_prime p t), fits_byte (passes (taken p) t)),
-  λ (P, l). prime_taken p (number_prime P) l,
-)
 
 pub prime_count : length primes ≡ 54
 unfolding primes

@@ -39,7 +39,8 @@ use Rattle.specification.specs.TypedClaims.{OneReading, LineOrPlace, AnyPart, On
 use Rattle.specification.specs.TypedTrials.{TypedTrials}
 use Rattle.algebra.specs.Numbers.{square_large}
 use Rattle.algebra.specs.Fields.{Prime, taken_prime}
-use Rattle.algebra.specs.TakenPrimes.{number_prime, taken_exactly, prime_count, primes_ascend}
+use Rattle.algebra.specs.TakenPrimes.{number_prime, prime_count, primes_ascend}
+use Rattle.algebra.proofs.TakenPrimes.{taken_exactly}
 use Rattle.lists.specs.Members.{◌∈◌, All, all_map}
 use Rattle.items.specs.MonicLists.{MonicList, from_claimed, monic_list_mul}
 use Rattle.items.specs.MonicDivision.{monic_list_one}

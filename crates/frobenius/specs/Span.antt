@@ -1,6 +1,5 @@
 -- Rows in slots: slot k is free (𝟎) or holds a monic polynomial of degree k. `Span r n y`: y is a combination of the rows below slot n.
--- Proves that spans are closed under sums and multiples, that a y in the span that is 𝟘 at the degree of every row is 𝟎, and that what a
--- free slot takes in does not make the span smaller. Assumes nothing.
+-- Proves that spans are closed under sums and multiples, and that what a free slot takes in does not make the span smaller. Assumes nothing.
 use Rattle.std.specs.Prelude.{◌≡◌, ◌⊎◌, ◌≢◌}
 use Rattle.std.proofs.Math.Path.{refl, ap, ap₂}
 use Rattle.std.proofs.Common.{sym, ◌∙◌, inl, inr, ⊎_elim, eq-or-lt_of_le}
@@ -42,7 +41,7 @@ module _ {R : Type 0} {𝓡 : CommRing R} where
   pub less_𝟎 : (y : Poly 𝓡) (c : R) → less y c 𝟎 ≡ y
   less_𝟎 y c = solve (PolyRing 𝓡) 2 (λ y c. y ⊖ c ⊗ con 0 ≈ y) tt y (constant c)
 
-  less_𝟘 : (y a : Poly 𝓡) → less y 𝟘 a ≡ y
+  pub less_𝟘 : (y a : Poly 𝓡) → less y 𝟘 a ≡ y
   less_𝟘 y a = rw (constant_zero 𝓡) (solve (PolyRing 𝓡) 2 (λ y a. y ⊖ con 0 ⊗ a ≈ y) tt y a)
 
   unfoldable pub Span : (ℕ → Poly 𝓡) → ℕ → Poly 𝓡 → Type 0
@@ -107,34 +106,6 @@ module _ {R : Type 0} {𝓡 : CommRing R} where
     module _ (slots : (k : ℕ) → Slot r k) where
       pub row_below : (k : ℕ) → Below (suc k) (r k)
       row_below k = ⊎_elim (λ e. rw e (below_𝟎 (suc k))) (λ m. m.below) (slots k)
-
-      span_below : (n : ℕ) (y : Poly 𝓡) → Span r n y → Below n y
-      unfolding Span
-      span_below zero y e = rw e (below_𝟎 0)
-      span_below (suc n) y (c, h) =
-          rw (solve (PolyRing 𝓡) 2 (λ y a. y ≈ y ⊖ a ⊕ a) tt y (constant c · r n))
-          (below_add (below_up (omega arith) (span_below n (less y c (r n)) h)) (below_constant_mul c (row_below n)))
-
-      -- in the span, and 𝟘 at the degree of every row from k on
-      pub span_clear : (k n : ℕ) (y : Poly 𝓡) → k ≤ n → Span r n y → ((j : ℕ) → k ≤ j → j < n → Clear r y j) → Below k y
-      unfolding Span
-      span_clear k zero y l e h = rw e (below_𝟎 k)
-      span_clear k (suc n) y l (c, s) h = go (eq-or-lt_of_le l) (λ m. span_clear k n y m (rw (same m (slots n)) at s) (λ j g f. h j g (omega arith)))
-        where
-          go : (k ≡ suc n) ⊎ (k < suc n) → (k ≤ n → Below k y) → Below k y
-          go (inl e) f = rw e (span_below (suc n) y (c, s))
-          go (inr m) f = f (omega arith)
-
-          same : k ≤ n → Slot r n → less y c (r n) ≡ y
-          same f (inl e) = ap (less y c) e ∙ less_𝟎 y c
-          same f (inr m) = ap (λ d. less y d (r n)) none ∙ less_𝟘 y (r n)
-            where
-              top : (less y c (r n)).coef n ≡ neg c
-              top = coef_less y c (r n) n ∙ rw (h n f (omega arith) m, m.leading) (simp ring)
-
-              none : c ≡ 𝟘
-              none =
-                  sym (neg_neg 𝓡 c) ∙ ap neg (sym top ∙ (span_below n (less y c (r n)) s).high n (omega arith)) ∙ neg_zero 𝓡
 
   -- a free slot takes in a row
   pub span_insert : (r r' : ℕ → Poly 𝓡) (k : ℕ) → r k ≡ 𝟎 → ((j : ℕ) → j ≢ k → r' j ≡ r j) → (n : ℕ) (y : Poly 𝓡) → Span r n y → Span r' n y

@@ -1,5 +1,5 @@
--- The quotient of a polynomial over ℤ/p by its gcd with its derivative.
--- Proves that it has no square factor: where G divides a exactly k times, G^(k−1) divides the derivative, and so the gcd. Assumes nothing.
+-- The derivative of a polynomial over ℤ/p that a power divides.
+-- Proves that G^j divides the derivative of w·G^(j+1). Assumes nothing.
 use Rattle.std.specs.Prelude.{◌≡◌, ℕ, suc, ◌≤◌, ◌-◌}
 use Rattle.std.proofs.Common.{sym, ◌∙◌, ap, ap₂, arith}
 use Rattle.algebra.specs.Identities.{◌⊕◌, ◌⊗◌, ◌≈◌, solve}
@@ -17,7 +17,7 @@ use Rattle.frobenius.specs.Derivatives.{derivative, derivative_mul, derivative_p
 
 module _ {p : ℕ} where
   -- G^j divides the derivative of w·G^(j+1)
-  power_divides_derivative : (w G : ℤ[x]/ p) (j : ℕ) → ◌∣◌ (𝓩[x]/ p) (pow (𝓩[x]/ p) G j) (derivative (w · pow (𝓩[x]/ p) G (suc j)))
+  pub power_divides_derivative : (w G : ℤ[x]/ p) (j : ℕ) → ◌∣◌ (𝓩[x]/ p) (pow (𝓩[x]/ p) G j) (derivative (w · pow (𝓩[x]/ p) G (suc j)))
   power_divides_derivative w G j = (
     derivative w · G +ᴿ w · (constant (residue p (suc j)) · derivative G),
     sym (derivative_mul w (pow (𝓩[x]/ p) G (suc j))
@@ -25,32 +25,3 @@ module _ {p : ℕ} where
         ∙ solve (𝓩[x]/ p) 5 (λ v g b w c. v ⊗ (g ⊗ b) ⊕ w ⊗ (c ⊗ b) ≈ (v ⊗ g ⊕ w ⊗ c) ⊗ b) tt
         (derivative w) G (pow (𝓩[x]/ p) G j) w (constant (residue p (suc j)) · derivative G)),
   )
-
-  module _ (P : Prime p) {d : ℕ} {a b g : ℤ[x]/ p} (monic : Monic d a) (multiplies : b · g ≡ a)
-      (greatest : (h : ℤ[x]/ p) → ◌∣◌ (𝓩[x]/ p) h (derivative a) → ◌∣◌ (𝓩[x]/ p) h a → ◌∣◌ (𝓩[x]/ p) h g) where
-    module _ {G : ℤ[x]/ p} (I : Irreducible G) (square : ◌∣◌ (𝓩[x]/ p) (G · G) b) (M : Multiplicity (𝓩[x]/ p) G a) where
-      -- a power of G that divides the gcd is two less than one that divides a
-      more : (j : ℕ) → ◌∣◌ (𝓩[x]/ p) (pow (𝓩[x]/ p) G j) g → suc (suc j) ≤ M.k
-      more j e = power_bound (monic_cancel I.monic) M (rw (power, ← multiplies) (divides_mul_both (𝓩[x]/ p) square e))
-        where
-          power : pow (𝓩[x]/ p) G (suc (suc j)) ≡ G · G · pow (𝓩[x]/ p) G j
-          power =
-              pow_suc (𝓩[x]/ p) G (suc j) ∙ ap (λ c. G · c) (pow_suc (𝓩[x]/ p) G j)
-              ∙ sym ((𝓩[x]/ p).*_assoc G G (pow (𝓩[x]/ p) G j))
-
-      -- and the one below the multiplicity of G divides the gcd
-      no_square : ⊥
-      no_square = omega (arith, more (M.k - 1) (greatest (pow (𝓩[x]/ p) G (M.k - 1)) derived (power_divides M (omega arith))))
-        where
-          least : 2 ≤ M.k
-          least = more 0 (rw (pow_zero (𝓩[x]/ p) G) (one_divides (𝓩[x]/ p) g))
-
-          whole : M.w · pow (𝓩[x]/ p) G (suc (M.k - 1)) ≡ a
-          whole = ap (λ k. M.w · pow (𝓩[x]/ p) G k) (let e : suc (M.k - 1) ≡ M.k = omega (arith, least) in e) ∙ M.law
-
-          derived : ◌∣◌ (𝓩[x]/ p) (pow (𝓩[x]/ p) G (M.k - 1)) (derivative a)
-          derived = rw whole at (power_divides_derivative M.w G (M.k - 1))
-
-    pub quotient_squarefree : SquareFree b
-    quotient_squarefree G I square =
-        no_square I square (multiplicity (residue_discrete p) I.positive I.monic a (monic_nonzero (residue_field p P).one_ne_zero monic))

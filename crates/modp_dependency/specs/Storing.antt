@@ -11,7 +11,7 @@ use Rattle.algebra.specs.Fields.{Prime, prime_pos, residue_field}
 use Rattle.algebra.specs.CoefficientLists.{ℤ[x]/, poly, Reduced, coef_poly}
 use Rattle.arrays.specs.Represents.{Represents}
 use Rattle.frobenius.specs.RowReduction.{Stage, Reducing}
-use Rattle.frobenius.specs.LeastDependency.{stage_more}
+use Rattle.frobenius.proofs.LeastDependency.{stage_more}
 use Rattle.modular.specs.InPlace.{Added}
 use Rattle.modular.specs.Multiples.{multiple_represented}
 use Rattle.modular.proofs.AddMultiple.{multiple_added_to}

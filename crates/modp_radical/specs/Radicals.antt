@@ -18,7 +18,7 @@ use Rattle.factorisation.specs.SquareFree.{SquareFree, squarefree_divisor}
 use Rattle.frobenius.specs.FrobeniusPowers.{◌^ᴿ◌}
 use Rattle.frobenius.specs.Derivatives.{derivative, below_derivative}
 use Rattle.frobenius.specs.PowerRoots.{degree_multiple, root_monic}
-use Rattle.frobenius.specs.SquareFreeQuotients.{quotient_squarefree}
+use Rattle.frobenius.proofs.SquareFreeQuotients.{quotient_squarefree}
 use Rattle.division.specs.DivisionLoop.{DividedBy, divided_exactly}
 use Rattle.modp_euclid.specs.CommonDivisors.{GcdOf}
 use Rattle.modp_radical.specs.declared.Radical.{Radical}
