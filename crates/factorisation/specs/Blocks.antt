@@ -1,6 +1,5 @@
--- A longest list falls into blocks: its members in the class of a part, and the rest.
--- Proves that the block of a part multiplies to the part, and that the bars of the divisors of a part are powers of the prime element.
--- Assumes nothing.
+-- A list falls into blocks: its members in the class of a part, and the rest.
+-- Proves that the bars of the divisors of a part are powers of the prime element. Assumes nothing.
 use Rattle.std.specs.Prelude.{◌≡◌, refl, List, [], ◌∷◌, length, ℕ, zero, suc, ◌≤◌}
 use Rattle.std.proofs.Common.{sym, ◌∙◌, ap, inl, inr, zero-le, suc-le-suc, arith}
 use mathlib.Core.List.Memᴰ
@@ -30,7 +29,7 @@ use Rattle.lists.specs.Sums.{total_nil, total_cons_zero, total_cons_one}
 use Rattle.factorisation.specs.PrimeElements.{exponent, divisor_of_power}
 use Rattle.factorisation.specs.ExtensionLaws.{bar_one, bar_mul, coprime_lift, coprime_bar_product}
 use Rattle.factorisation.specs.Classes.{Cases, class_cases}
-use Rattle.factorisation.specs.LongestLists.{Part, Apart, LongestList, Proper, Cofactor, within, members_in, bar_P, cofactor, one_class}
+use Rattle.factorisation.specs.LongestLists.{Part, Apart, LongestList, Proper, Cofactor, within, members_in, bar_P, cofactor}
 use Rattle.factorisation.specs.Monics.{Monics, monic_pow, monic_product}
 
 module _ {A B : Type 0} {𝓐 : CommRing A} {𝓑 : CommRing B} {bar : A → B} (E : Extension 𝓐 𝓑 bar) where
@@ -75,30 +74,6 @@ module _ {A B : Type 0} {𝓐 : CommRing A} {𝓑 : CommRing B} {bar : A → B} 
         members = λ y i. (there (b.members y i).0, (b.members y i).1);
         coprime = rw (product_cons 𝓐 x b.outside, bar_mul E x (product 𝓐 b.outside)) (coprime_mul 𝓑 c b.coprime);
       }
-
-  module _ {Monic : A → Type 0} (M : Monics 𝓐 Monic) {Q : List (Part E)} (apart : Apart E Q)
-      {L : List A} (l : LongestList E Q L) (monic : All Monic L) where
-    -- inside·outside = P·C, each coprime to the other's cofactor
-    pub block_product : (q : Part E) → q ∈ Q → Monic q.P → (b : Block q L) → product 𝓐 b.inside ≡ q.P
-    block_product q i monicP b =
-        M.equal (monic_product M b.inside (λ x j. monic x (b.members x j).0)) monicP (
-          gauss 𝓐 (coprime_sym 𝓐 (coprime_lift E C_inside)) (product 𝓐 b.outside, 𝓐.*_comm _ _ ∙ both),
-          gauss 𝓐 (coprime_sym 𝓐 (coprime_lift E outside_P)) (c.C, 𝓐.*_comm _ _ ∙ sym both),
-        )
-      where
-        c : Cofactor E q Q
-        c = cofactor E apart i
-
-        both : product 𝓐 b.inside *ᴿ product 𝓐 b.outside ≡ q.P *ᴿ c.C
-        both = b.law ∙ l.list.factors ∙ sym c.law
-
-        C_inside : Coprime 𝓑 (bar c.C) (bar (product 𝓐 b.inside))
-        C_inside =
-            coprime_bar_product E (bar c.C) b.inside
-            (λ x j. let (k, e) = b.members x j in coprime_sym 𝓑 (c.others x (omega (arith, one_class E apart l x k))))
-
-        outside_P : Coprime 𝓑 (bar (product 𝓐 b.outside)) (bar q.P)
-        outside_P = rw (bar_P E q) (coprime_pow 𝓑 q.m (coprime_sym 𝓑 b.coprime))
 
   -- ---- the divisors of a part
 

@@ -1,6 +1,6 @@
 -- Irreducible polynomials over a field: monic, of degree 1 or more, and not a product of two such.
--- Proves that there are no zero divisors, that a monic divisor of an irreducible polynomial is 𝟏 or it, that an irreducible polynomial
--- is a prime element, and that two irreducible polynomials are equal or coprime. Assumes nothing.
+-- Proves that there are no zero divisors, that a monic divisor of an irreducible polynomial is 𝟏 or it, and that an irreducible polynomial
+-- is a prime element. Assumes nothing.
 use Rattle.std.specs.Prelude.{◌≡◌, ◌⊎◌, ◌≢◌, ℕ, zero, suc, ◌≤◌, ◌+◌}
 use Rattle.std.proofs.Common.{sym, ◌∙◌, ap, inl, inr, ⊎_elim, arith}
 use Rattle.algebra.specs.Ring.{CommRing}
@@ -33,7 +33,7 @@ module _ {R : Type 0} {𝓡 : CommRing R} (field : Field 𝓡) where
           top =
               sym (coef_top s.below t.below) ∙ ap (λ c. c.coef (s.degree + t.degree)) e ∙ coef_zero 𝓡 (s.degree + t.degree)
 
-  monic_divisor : {k : ℕ} {g G : Poly 𝓡} → Irreducible G → Monic k g → ◌∣◌ (PolyRing 𝓡) g G → (g ≡ 𝟏) ⊎ (g ≡ G)
+  pub monic_divisor : {k : ℕ} {g G : Poly 𝓡} → Irreducible G → Monic k g → ◌∣◌ (PolyRing 𝓡) g G → (g ≡ 𝟏) ⊎ (g ≡ G)
   monic_divisor {k = zero} I m d = inl (monic_zero m)
   monic_divisor {k = suc k} {g} {G} I m (u, e) = go (monic_cofactor field.decide field.one_ne_zero u g m (rw e I.monic))
     where
@@ -55,14 +55,3 @@ module _ {R : Type 0} {𝓡 : CommRing R} (field : Field 𝓡) where
           go : (z.combined.gcd ≡ 𝟏) ⊎ (z.combined.gcd ≡ G) → (◌∣◌ (PolyRing 𝓡) G a) ⊎ Coprime (PolyRing 𝓡) G a
           go (inl e) = inr (bezout_coprime z.combined e)
           go (inr e) = inl (rw e at z.combined.right)
-
-  pub same_or_coprime : {G H : Poly 𝓡} → Irreducible G → Irreducible H → (G ≡ H) ⊎ Coprime (PolyRing 𝓡) G H
-  same_or_coprime {G} {H} I J = go ((irreducible_prime I).test H)
-    where
-      go : (◌∣◌ (PolyRing 𝓡) G H) ⊎ Coprime (PolyRing 𝓡) G H → (G ≡ H) ⊎ Coprime (PolyRing 𝓡) G H
-      go (inr c) = inr c
-      go (inl d) =
-          ⊎_elim (λ e. absurd ((irreducible_prime I).nonunit (𝟏, (PolyRing 𝓡).*_one G ∙ e))) (λ e. inl e) (monic_divisor J I.monic d)
-
-  pub different_coprime : {G H : Poly 𝓡} → Irreducible G → Irreducible H → G ≢ H → Coprime (PolyRing 𝓡) G H
-  different_coprime I J n = ⊎_elim (λ e. absurd (n e)) (λ c. c) (same_or_coprime I J)

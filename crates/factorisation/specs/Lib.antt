@@ -6,15 +6,12 @@ pub mod ExtensionLaws
 pub mod Classes
 pub mod LongestLists
 pub mod Blocks
-pub mod FewestDifferent
 pub mod Settings
 pub mod LastMember
 pub mod MonicDivisors
 pub mod Irreducible
 pub mod SquareFree
-pub mod IrreducibleDivisors
 pub mod Multiplicity
 pub mod UniqueFactorisation
 pub mod PolynomialExtension
 pub mod Lifting
-pub mod PrimaryParts

@@ -84,16 +84,16 @@ module _ {A B : Type 0} {𝓐 : CommRing A} {𝓑 : CommRing B} {bar : A → B} 
 
   -- ---- the other parts
 
-  coprime_whole : (b : B) (Q : List Part) → All (λ q. Coprime 𝓑 b (bar q.g)) Q → Coprime 𝓑 b (bar (whole Q))
+  pub coprime_whole : (b : B) (Q : List Part) → All (λ q. Coprime 𝓑 b (bar q.g)) Q → Coprime 𝓑 b (bar (whole Q))
   coprime_whole b Q h =
       coprime_bar_product E b (map (λ q. q.P) Q)
       (all_map (λ x. Coprime 𝓑 b (bar x)) (λ q. q.P) Q (λ q i. rw (bar_P q) (coprime_pow 𝓑 q.m (h q i))))
 
-  outside : (x : A) (q : Part) → within x q ≤ 0 → Coprime 𝓑 (bar x) (bar q.g)
+  pub outside : (x : A) (q : Part) → within x q ≤ 0 → Coprime 𝓑 (bar x) (bar q.g)
   outside x q l = coprime_sym 𝓑 (outside_coprime E q.g q.prime x l)
 
   -- x in no class
-  outside_all : (x : A) (Q : List Part) → total (within x) Q ≤ 0 → Coprime 𝓑 (bar x) (bar (whole Q))
+  pub outside_all : (x : A) (Q : List Part) → total (within x) Q ≤ 0 → Coprime 𝓑 (bar x) (bar (whole Q))
   outside_all x Q l = coprime_whole (bar x) Q (λ q i. outside x q (omega (arith, member_le (within x) i)))
 
   pub record Cofactor (q : Part) (Q : List Part) : Type 0 where
@@ -132,56 +132,3 @@ module _ {A B : Type 0} {𝓐 : CommRing A} {𝓑 : CommRing B} {bar : A → B} 
 
   pub cofactor : {q : Part} {Q : List Part} → Apart Q → q ∈ Q → Cofactor q Q
   cofactor {q} {Q} apart i = cofactor_in Q apart q i
-
-  -- ---- the claims
-
-  module _ {Q : List Part} (apart : Apart Q) where
-    module _ {L : List A} (l : FactorList Q L) where
-      class_at_most : (q : Part) → q ∈ Q → members_in q L ≤ q.s
-      class_at_most q i =
-          let c = cofactor apart i in
-          class_bound E q.g q.prime q.m q.shape c.coprime L (l.factors ∙ sym c.law) q.s q.longest
-
-      -- a member in no class would be coprime to the product, which it divides
-      some_class : (x : A) → x ∈ L → 1 ≤ total (within x) Q
-      some_class x i = go (total (within x) Q) refl
-        where
-          go : (n : ℕ) → total (within x) Q ≡ n → 1 ≤ n
-          go zero e =
-              absurd (l.proper x i (gauss 𝓑 {c = bar (whole Q)} (outside_all x Q (omega arith))
-              (rw (𝓑.*_one (bar (whole Q))) (keeps_divides E.hom (rw l.factors at (member_divides 𝓐 i))))))
-          go (suc n) e = omega arith
-
-      swapped : total (λ x. total (within x) Q) L ≡ total (λ q. members_in q L) Q
-      swapped = total_swap within L Q
-
-      length_le : length L ≤ total (λ q. members_in q L) Q
-      length_le = omega (arith, total_one L, total_mono (λ x. 1) (λ x. total (within x) Q) L some_class, swapped)
-
-      members_le : total (λ q. members_in q L) Q ≤ size Q
-      members_le = total_mono (λ q. members_in q L) (λ q. q.s) Q class_at_most
-
-      -- B
-      pub length_at_most : length L ≤ size Q
-      length_at_most = omega (arith, length_le, members_le)
-
-    module _ {L : List A} (l : LongestList Q L) where
-      -- D
-      pub class_exactly : (q : Part) → q ∈ Q → members_in q L ≡ q.s
-      class_exactly =
-          total_equal (λ q. members_in q L) (λ q. q.s) Q (class_at_most l.list) (omega (arith, l.full, length_le l.list))
-
-      -- D
-      pub one_class : (x : A) → x ∈ L → total (within x) Q ≡ 1
-      one_class x i =
-          sym (total_equal (λ x. 1) (λ x. total (within x) Q) L (some_class l.list)
-          (omega (arith, total_one L, l.full, swapped l.list, members_le l.list)) x i)
-
-      -- C: two factors in place of a member would give a longer list
-      pub no_product_lem : (x : A) → x ∈ L → (a b : A) → Proper a → Proper b → x ≢ a *ᴿ b
-      no_product_lem x i a b p q e =
-          let longer : FactorList Q (replace i a b) = record {
-            factors = replace_product 𝓐 i e ∙ l.list.factors;
-            proper = replace_all i a b p q l.list.proper;
-          } in
-          omega (arith, length_at_most longer, replace_length i a b, l.full)

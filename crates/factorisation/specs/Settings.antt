@@ -1,5 +1,5 @@
 -- Settings of one part: its longest lists, the member of highest multiplicity last.
--- Proves that all members but the last have the bar G; LastMember has what they leave of the part. Assumes nothing.
+-- Proves what form a product of members whose bars are powers of G has. Assumes nothing.
 use Rattle.std.specs.Prelude.{◌≡◌, refl, ◌⊎◌, List, [], ◌∷◌, length, ℕ, suc, ◌≤◌, ◌-◌, ◌+◌}
 use Rattle.std.proofs.Common.{sym, ◌∙◌, ap, inl, inr, ⊎_elim, arith}
 use mathlib.Core.List.Memᴰ.{head as here}
@@ -59,15 +59,15 @@ module _ {A B : Type 0} {𝓐 : CommRing A} {𝓑 : CommRing B} {bar : A → B} 
 
   -- ---- the product of members g^e + π·t, all e at most n, is g^(Σ e) + π·T, and G^(Σ e − n) divides the bar of T
 
-  abbrev Power : A → Type 0
+  abbrev pub Power : A → Type 0
   Power x = bar x ≡ pow 𝓑 (bar g) (e x)
 
-  record Form (n : ℕ) (L : List A) : Type 0 where
-    T : A
-    law : product 𝓐 L ≡ pow 𝓐 g (total e L) +ᴿ π *ᴿ T
-    divides : pow 𝓑 (bar g) (total e L - n) ∣ bar T
+  pub record Form (n : ℕ) (L : List A) : Type 0 where
+    pub T : A
+    pub law : product 𝓐 L ≡ pow 𝓐 g (total e L) +ᴿ π *ᴿ T
+    pub divides : pow 𝓑 (bar g) (total e L - n) ∣ bar T
 
-  form : (n : ℕ) (L : List A) → All Power L → All (λ x. e x ≤ n) L → Form n L
+  pub form : (n : ℕ) (L : List A) → All Power L → All (λ x. e x ≤ n) L → Form n L
   form n [] p b = record {
     T = 𝟘;
     law = rw (product_nil 𝓐, total_nil e, pow_zero 𝓐 g) (solve 𝓐 1 (λ π. con 1 ≈ con 1 ⊕ π ⊗ con 0) tt π);
@@ -90,55 +90,3 @@ module _ {A B : Type 0} {𝓐 : CommRing A} {𝓑 : CommRing B} {bar : A → B} 
             (divides_trans 𝓑 (rw (← pow_add 𝓑 (bar g) (e x) (total e L - n)) (pow_divides 𝓑 (bar g) (omega arith)))
             (divides_mul_both 𝓑 (divides_refl 𝓑 (pow 𝓑 (bar g) (e x))) f.divides))));
       }
-
-  -- ---- from settings to bars
-
-  module _ (M : Monics 𝓑 Monic) (monic_g : Monic (bar g)) (r : ℕ) (sr : s + r ≡ m)
-      {xs : List A} {y : A} (l : Setting xs y) where
-    abbrev L : List A
-    L = y ∷ xs
-
-    divides : {x : A} → x ∈ L → Divides 𝓐 x P
-    divides i = rw l.factors at (member_divides 𝓐 i)
-
-    powers : All Power L
-    powers x i = divisor_bar E M q monic_g (divides i) (l.monic x i)
-
-    positive : (x : A) → x ∈ L → 1 ≤ e x
-    positive x i = divisor_pos E M q monic_g (divides i) (l.monic x i) (l.proper x i)
-
-    sum : total e L ≡ m
-    sum =
-        let f = form (total e L) L powers (λ x i. member_le e i) in
-        pow_injective 𝓑 prime (total e L) m
-        (sym (ap bar f.law ∙ bar_pow_π E g f.T (total e L)) ∙ ap bar l.factors ∙ bar_P E q)
-
-    -- if all multiplicities were r or less, G^s would divide the bar of h
-    large : ¬ (All (λ x. e x ≤ r) L)
-    large b = go q.longest
-      where
-        f : Form r L
-        f = form r L powers b
-
-        same : bar h ≡ bar f.T
-        same = π_injective E (add_left_cancel 𝓐 (sym q.shape ∙ sym l.factors ∙ f.law ∙ ap (λ n. pow 𝓐 g n +ᴿ π *ᴿ f.T) sum))
-
-        go : (m ≤ s) ⊎ ¬ (pow 𝓑 (bar g) s ∣ bar h) → ⊥
-        go (inl t) = omega (arith, t, sr, b y (here refl), positive y (here refl))
-        go (inr n) = n (rw same (divides_trans 𝓑 (pow_divides 𝓑 (bar g) (omega (arith, sum, sr))) f.divides))
-
-    last_large : suc r ≤ e y
-    last_large =
-        ⊎_elim (λ t. t) (λ t. absurd (large (all_cons t (λ x i. omega (arith, t, l.order x i))))) (lt_or_le r (e y))
-
-    ones : (x : A) → x ∈ xs → 1 ≤ e x
-    ones x i = positive x (there i)
-
-    last_is : e y ≡ suc r
-    last_is = omega (arith, sum, total_cons e y xs, total_one xs, total_mono (λ x. 1) e xs ones, last_large, sr, l.count)
-
-    first_is : (x : A) → x ∈ xs → 1 ≡ e x
-    first_is = total_equal (λ x. 1) e xs ones (omega (arith, sum, total_cons e y xs, total_one xs, last_is, sr, l.count))
-
-    pub first_bar : All (λ x. bar x ≡ bar g) xs
-    first_bar x i = powers x (there i) ∙ ap (pow 𝓑 (bar g)) (sym (first_is x i)) ∙ pow_one 𝓑 (bar g)

@@ -12,7 +12,7 @@ use Rattle.factorisation.specs.MonicDivisors.{monic_nonzero}
 use Rattle.factorisation.specs.Irreducible.{Irreducible, irreducible_prime}
 use Rattle.factorisation.specs.SquareFree.{SquareFree}
 use Rattle.factorisation.specs.Multiplicity.{Multiplicity, rest_coprime, multiplicity}
-use Rattle.factorisation.specs.IrreducibleDivisors.{IrreducibleDivisor, irreducible_divisor}
+use Rattle.factorisation.proofs.IrreducibleDivisors.{IrreducibleDivisor, irreducible_divisor}
 use Rattle.frobenius.specs.Unsplit.{Unsplit, unsplit_indivisible}
 use Rattle.algebra.specs.CoefficientLists.{ℤ[x]/, 𝓩[x]/}
 

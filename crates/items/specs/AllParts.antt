@@ -24,7 +24,7 @@ use Rattle.algebra.specs.Fields.{Prime, residue_field}
 use Rattle.algebra.specs.CoefficientLists.{ℤ[x]/, poly, poly_product, 𝓩[x]/}
 use Rattle.lists.specs.Members.{◌∈◌, All, all_cons, all_tail, all_append, all_replicate}
 use Rattle.lists.specs.Sums.{total, total_cons}
-use Rattle.factorisation.specs.Irreducible.{different_coprime}
+use Rattle.factorisation.proofs.Irreducible.{different_coprime}
 use Rattle.factorisation.specs.MonicDivisors.{IsMonic}
 use Rattle.factorisation.specs.LongestLists.{Part, Apart, whole, size}
 use Rattle.items.specs.MonicLists.{MonicList, monic_poly, monic_list_mul}

@@ -23,8 +23,9 @@ use Rattle.lists.specs.Members.{◌∈◌, All, all_cons, all_map}
 use Rattle.lists.specs.Sums.{total as sum}
 use Rattle.factorisation.specs.MonicDivisors.{IsMonic, monics}
 use Rattle.factorisation.specs.Monics.{MonicMap}
-use Rattle.factorisation.specs.LongestLists.{Part, Apart, FactorList, LongestList, Proper, whole, length_at_most, no_product_lem}
-use Rattle.factorisation.specs.FewestDifferent.{different_at_least}
+use Rattle.factorisation.specs.LongestLists.{Part, Apart, FactorList, LongestList, Proper, whole}
+use Rattle.factorisation.proofs.LongestLists.{length_at_most, no_product_lem}
+use Rattle.factorisation.proofs.FewestDifferent.{different_at_least}
 use Rattle.items.specs.MonicLists.{MonicList, monic_poly, from_claimed}
 use Rattle.items.specs.MonicDivision.{monic_list_product}
 use Rattle.items.specs.Factorisations.{monic_equal, factorisation, factorisation_product}

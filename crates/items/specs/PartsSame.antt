@@ -20,7 +20,7 @@ use Rattle.algebra.specs.Fields.{Prime, prime_pos, residue_field, residue_nontri
 use Rattle.algebra.specs.CoefficientLists.{ℤ[x]/, poly, poly_mul, poly_pow, 𝓩[x]/}
 use Rattle.lists.specs.Members.{◌∈◌, All, all_tail, all_map, map_equal}
 use Rattle.lists.specs.InOrder.{in_order_by, in_order_map, to_in_order, from_in_order}
-use Rattle.factorisation.specs.Irreducible.{different_coprime}
+use Rattle.factorisation.proofs.Irreducible.{different_coprime}
 use Rattle.factorisation.specs.MonicDivisors.{divisor_degree}
 use Rattle.items.specs.MonicLists.{MonicList, monic_poly, from_claimed, to_claimed}
 use Rattle.items.specs.Irreducibles.{irreducible_poly}

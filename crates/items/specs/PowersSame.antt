@@ -18,7 +18,8 @@ use Rattle.algebra.specs.CoefficientLists.{ℤ[x]/, poly, poly_mul, poly_pow, po
 use Rattle.lists.specs.Members.{◌∈◌, All, all_map}
 use Rattle.lists.specs.InOrder.{to_in_order, in_order_by, in_order_map}
 use Rattle.factorisation.specs.Irreducible.{Irreducible}
-use Rattle.factorisation.specs.UniqueFactorisation.{powers, PowersOf, same_members}
+use Rattle.factorisation.specs.UniqueFactorisation.{powers, PowersOf}
+use Rattle.factorisation.proofs.UniqueFactorisation.{same_members}
 use Rattle.items.specs.MonicLists.{from_claimed}
 use Rattle.items.specs.Factorisations.{monic_equal}
 use Rattle.items.specs.Irreducibles.{irreducible_poly}

@@ -27,7 +27,7 @@ use Rattle.lists.specs.Members.{◌∈◌, all_map}
 use Rattle.factorisation.specs.MemberProducts.{member_divides}
 use Rattle.factorisation.specs.MonicDivisors.{monic_degree}
 use Rattle.factorisation.specs.UniqueFactorisation.{power, PowersOf}
-use Rattle.factorisation.specs.PrimaryParts.{Lifts, primary_parts, primary_part_unique}
+use Rattle.factorisation.proofs.PrimaryParts.{Lifts, primary_parts, primary_part_unique}
 use Rattle.items.specs.MonicLists.{MonicList, list, poly_list, from_claimed, list_monic, monic_poly, monic_same}
 use Rattle.items.specs.MonicDivision.{Divides, monic_list_pow, monic_list_product}
 use Rattle.items.specs.Factorisations.{monic_equal}

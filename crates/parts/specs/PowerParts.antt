@@ -15,7 +15,7 @@ use Rattle.arrays.specs.Listed.{listed, length_listed, degree_listed}
 use Rattle.arrays.specs.Held.{MonicArray, inside, held_monic, poly_monic}
 use Rattle.factorisation.specs.MonicDivisors.{monic_degree}
 use Rattle.factorisation.specs.ExtensionLaws.{bar_pow}
-use Rattle.factorisation.specs.UniqueFactorisation.{same_base}
+use Rattle.factorisation.proofs.UniqueFactorisation.{same_base}
 use Rattle.items.specs.MonicLists.{MonicList, from_claimed}
 use Rattle.items.specs.Factorisations.{monic_equal}
 use Rattle.items.specs.Irreducibles.{irreducible_poly}

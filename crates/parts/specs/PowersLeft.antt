@@ -26,7 +26,8 @@ use Rattle.lists.specs.Sums.{total, total_nil, total_cons}
 use Rattle.lists.specs.InOrder.{InOrder}
 use Rattle.factorisation.specs.Irreducible.{Irreducible}
 use Rattle.factorisation.specs.MonicDivisors.{monic_degree, monic_cancel_eq}
-use Rattle.factorisation.specs.UniqueFactorisation.{power, coprime_powers, power_coprime}
+use Rattle.factorisation.specs.UniqueFactorisation.{power, power_coprime}
+use Rattle.factorisation.proofs.UniqueFactorisation.{coprime_powers}
 use Rattle.items.specs.ItemOrder.{item_3}
 use Rattle.items.specs.Factorisations.{monic_equal}
 use Rattle.items.specs.Reductions.{bar_monic_lem}

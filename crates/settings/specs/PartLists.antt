@@ -22,9 +22,11 @@ use Rattle.lists.specs.Members.{◌∈◌, All, all_cons, all_map}
 use Rattle.factorisation.specs.MemberProducts.{member_divides}
 use Rattle.lists.specs.Sums.{total_nil, total_cons}
 use Rattle.factorisation.specs.MonicDivisors.{IsMonic, monics, monic_degree}
-use Rattle.factorisation.specs.LongestLists.{Part, Proper, length_at_most}
+use Rattle.factorisation.specs.LongestLists.{Part, Proper}
+use Rattle.factorisation.proofs.LongestLists.{length_at_most}
 use Rattle.factorisation.specs.Blocks.{multiplicity, divisor_bar}
-use Rattle.factorisation.specs.Settings.{Setting, first_bar}
+use Rattle.factorisation.specs.Settings.{Setting}
+use Rattle.factorisation.proofs.Settings.{first_bar}
 use Rattle.items.specs.MonicLists.{MonicList, monic_poly, from_claimed}
 use Rattle.items.specs.Reductions.{LiftOf, barred, bar_reduce, extension}
 use Rattle.items.specs.ListExtension.{monic_bar, monic_proper}

@@ -14,9 +14,11 @@ use Rattle.lists.specs.Sums.{total, total_one, total_mono, total_swap, member_le
 use Rattle.lists.specs.Distinct.{distinct, distinct_keeps, distinct_only}
 use Rattle.factorisation.specs.PrimeElements.{pow_injective}
 use Rattle.factorisation.specs.ExtensionLaws.{number, bar_mul, bar_number, bar_pow, difference, π_injective, binomial}
-use Rattle.factorisation.specs.LongestLists.{Part, IsSplit, Apart, LongestList, Proper, within, bar_P, class_exactly, one_class}
+use Rattle.factorisation.specs.LongestLists.{Part, IsSplit, Apart, LongestList, Proper, within, bar_P}
+use Rattle.factorisation.proofs.LongestLists.{class_exactly, one_class}
 use Rattle.factorisation.specs.Monics.{Monics, MonicMap}
-use Rattle.factorisation.specs.Blocks.{Block, block, block_product, multiplicity, divisor_bar, divisor_pos}
+use Rattle.factorisation.specs.Blocks.{Block, block, multiplicity, divisor_bar, divisor_pos}
+use Rattle.factorisation.proofs.Blocks.{block_product}
 
 module _ {A B : Type 0} {𝓐 : CommRing A} {𝓑 : CommRing B} {bar : A → B} (E : Extension 𝓐 𝓑 bar) where
   infixl 60 ◌+ᴿ◌

@@ -16,7 +16,8 @@ use Rattle.lists.specs.Members.{◌∈◌, All, all_cons, all_tail}
 use Rattle.lists.specs.InOrder.{InOrder}
 use Rattle.factorisation.specs.MonicDivisors.{IsMonic, monic_degree, monic_cancel_eq}
 use Rattle.factorisation.specs.Irreducible.{Irreducible}
-use Rattle.factorisation.specs.UniqueFactorisation.{power, PowersOf, Others, power_coprime, coprime_powers, others}
+use Rattle.factorisation.specs.UniqueFactorisation.{power, PowersOf, Others, power_coprime}
+use Rattle.factorisation.proofs.UniqueFactorisation.{coprime_powers, others}
 use Rattle.factorisation.specs.Lifting.{reduce, LiftedPair, lift_two, part_unique}
 
 -- monic, and each coprime to the product of those that follow
