@@ -15,7 +15,7 @@ multiply_at_spec =
     tie.close
     (tie.spec
     (λ c. search rules)  -- bounds-answer-at
-    (λ c. let (large, l, m) = c.requires in multiplied_other _ _ _ _ _ l c.if-answer-at-ne18.true m)  -- returns-then-answer-at-ne18
+    (λ c. let (large, l, m) = c.requires in multiplied_other _ _ _ _ _ l (search rules) m)  -- returns-then-answer-at-ne18
     (λ c κs. search rules)  -- read_factor-factor-requires
     (λ c. factor_missing _ _ _ _ _ c.read_factor-factor.ensures (not-true _ c.if-not-factor.true))  -- returns-then-not-factor
     (λ c κs. search rules)  -- square-requires
