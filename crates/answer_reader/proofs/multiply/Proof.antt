@@ -16,13 +16,6 @@ invariant-loop-at answer prime coefs₀ degree₀ at₀ coefs degree at = Multip
 abbrev decreases-loop-at : tie.decreases-loop-at
 decreases-loop-at answer prime coefs₀ degree₀ at₀ coefs degree at = length answer - at
 
-abbrev at_loop : tie.After-multiply_at-grown invariant-loop-at decreases-loop-at → tie.At-loop-at invariant-loop-at decreases-loop-at
-at_loop c = c.before.before
-
--- the command's place is passed
-abbrev multiplied : tie.After-operand_count invariant-loop-at decreases-loop-at → tie.Else-not-grown invariant-loop-at decreases-loop-at
-multiplied c = c.before.before.before
-
 count_fits : (c : tie.After-operand_count invariant-loop-at decreases-loop-at) → c.operand_count.result ≤ 255
 count_fits c = rw c.operand_count.ensures (count_low _)
 
@@ -33,17 +26,12 @@ multiply_spec =
     (λ c κs. search rules)  -- monomial-coefs-requires
     (λ c. multiplying_first _ _ c.requires c.monomial-coefs.ensures)  -- loop-at-init
     (λ c κs. (c.requires, search rules, c.loop-at.invariant.array))  -- multiply_at-grown-requires
-    (λ c.
-    let m = c.before.before in
-    given_up _ _ (at_loop m).loop-at.invariant (search rules) m.multiply_at-grown.ensures (not-true _ c.if-not-grown.true))  -- returns-then-not-grown
+    (λ c. given_up _ _ c.loop-at.invariant (search rules) c.multiply_at-grown.ensures (search (rules, not-true)))  -- returns-then-not-grown
     (λ c. search rules)  -- bounds-answer-at
     (λ c κs. search rules)  -- operand_count-requires
     (λ c. omega (arith, count_fits c))  -- overflow_add-at
     (λ c. omega (arith, count_fits c))  -- overflow_add-at-in-loop-at
     (λ c. search rules)  -- loop-at-smaller
     (λ c.
-    let e = multiplied c in
-    let m = e.before.before in
-    multiplying_more _ _ (at_loop m).loop-at.invariant (search rules) m.multiply_at-grown.ensures (not-false _ e.if-not-grown.false)
-    c.operand_count.ensures)  -- loop-at-preserved
+    multiplying_more _ _ c.loop-at.invariant (search rules) c.multiply_at-grown.ensures (search (rules, not-false)) c.operand_count.ensures)  -- loop-at-preserved
     (λ c. product_found _ _ c.loop-at.invariant c.loop-at-test.false))  -- returns

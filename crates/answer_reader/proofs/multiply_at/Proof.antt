@@ -1,6 +1,5 @@
 -- `answer_reader::multiply_at` meets its contract.
 -- Assumes nothing.
-use native.Mathlib.Omega.{arith}
 use borrow.Author.Tests.{not-true, not-false}
 use borrow.Author.Rules.{rules}
 use Rattle.answer_reader.proofs.Multiplying.{multiplied_other, factor_missing, multiplied_by}
@@ -16,7 +15,7 @@ multiply_at_spec =
     tie.close
     (tie.spec
     (λ c. search rules)  -- bounds-answer-at
-    (λ c. let (large, l, m) = c.requires in multiplied_other _ _ _ _ _ l (omega arith) m)  -- returns-then-answer-at-ne18
+    (λ c. let (large, l, m) = c.requires in multiplied_other _ _ _ _ _ l (search rules) m)  -- returns-then-answer-at-ne18
     (λ c κs. search rules)  -- read_factor-factor-requires
     (λ c. factor_missing _ _ _ _ _ c.read_factor-factor.ensures (not-true _ c.if-not-factor.true))  -- returns-then-not-factor
     (λ c κs. search rules)  -- square-requires
