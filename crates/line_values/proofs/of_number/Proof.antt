@@ -15,7 +15,7 @@ of_number_spec =
     tie.close
     (tie.spec
     (λ c κs. search rules)  -- without_value-requires
-    (λ c. number_large c.without_value.ensures c.before.if-v-gt65535.true)  -- returns-then-v-gt65535
+    (λ c. number_large c.without_value.ensures (omega arith))  -- returns-then-v-gt65535
     (λ c κs. search rules)  -- square-requires
     (λ c. search rules)  -- overflow_cast-coefs
     (λ c. omega (arith, c.square.ensures, square_above_one _ c.before.before.requires))  -- nonzero_rem-coefs
@@ -25,4 +25,4 @@ of_number_spec =
     let pos : 0 < c.square.result = omega (arith, c.square.ensures, square_above_one _ prime) in
     omega (arith, square_small _ prime, c.square.ensures, mod-lt v pos))  -- overflow_cast-coefs-2
     (λ c. search rules)  -- bounds-coefs-0
-    (λ c. number_small c.before.before.requires c.before.if-v-gt65535.false c.square.ensures refl refl refl))  -- returns
+    (λ c. number_small c.before.before.requires (omega arith) c.square.ensures refl refl refl))  -- returns

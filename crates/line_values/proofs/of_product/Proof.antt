@@ -1,6 +1,7 @@
 -- `line_values::of_product` meets its contract.
 -- Assumes nothing.
 use mathlib.Core.Path.{refl}
+use native.Mathlib.Omega.{arith}
 use borrow.Author.Rules.{rules}
 use Rattle.arrays.specs.Sizes.{below_size}
 use Rattle.line_values.proofs.Products.{product_without, product_high, product_with}
@@ -21,7 +22,7 @@ of_product_spec =
     (λ c.
     let start = c.before.before.before.before.before.before in
     product_high start.before.worse-number.ensures start.before.before.requires.0 start.if-number-ne0.false c.before.before.before.size-s.ensures
-    c.before.before.size-t.ensures c.without_value-then-s-t-gt34.ensures c.before.if-s-t-gt34.true)  -- returns-then-s-t-gt34
+    c.before.before.size-t.ensures (search rules) (omega arith))  -- returns-then-s-t-gt34
     (λ c κs. search rules)  -- square-requires
     (λ c κs.
     let start = c.before.before.before.before.before.before in
@@ -30,9 +31,9 @@ of_product_spec =
     let s = c.before.before.before.size-s.ensures in
     let t = c.before.before.size-t.ensures in
     rw c.square.ensures
-    (pre.1.reduced none.0, pre.2.reduced none.1, s.limit, c.before.if-s-t-gt34.false, below_size _ s, below_size _ t))  -- product-requires
+    (pre.1.reduced none.0, pre.2.reduced none.1, s.limit, omega arith, below_size _ s, below_size _ t))  -- product-requires
     (λ c.
     let start = c.before.before.before.before.before.before.before in
     product_with start.before.worse-number.ensures start.before.before.requires.0 start.if-number-ne0.false c.before.before.before.before.size-s.ensures
-    c.before.before.before.size-t.ensures refl refl c.before.before.if-s-t-gt34.false
+    c.before.before.before.size-t.ensures refl refl (omega arith)
     (rw c.before.square.ensures at c.product.ensures)))  -- returns

@@ -1,5 +1,7 @@
 -- `line_values::worse` meets its contract.
 -- Assumes nothing.
+use native.Mathlib.Omega.{arith}
+use borrow.Author.Rules.{rules}
 use Rattle.line_values.proofs.Judging.{worse_first, worse_second, worse_none, worse_high}
 use Rattle.line_values.proofs.worse.Statement.{statement}
 use Rattle.line_values.proofs.worse.Tie as tie
@@ -8,7 +10,7 @@ pub worse_spec : {M : Type 1} → statement M
 worse_spec =
     tie.close
     (tie.spec
-    (λ c. worse_first c.if-a-eq16.true)  -- returns-then-a-eq16
-    (λ c. worse_second c.if-b-eq16.true)  -- returns-then-b-eq16
-    (λ c. worse_none c.if-a-eq0.true)  -- returns-then-a-eq0
-    (λ c. worse_high c.before.if-b-eq16.false c.before.before.if-a-eq16.false c.if-a-eq0.false))  -- returns-else-a-eq0
+    (λ c. worse_first (omega arith))  -- returns-then-a-eq16
+    (λ c. worse_second (omega arith))  -- returns-then-b-eq16
+    (λ c. worse_none (omega arith))  -- returns-then-a-eq0
+    (λ c. worse_high (search rules) (search rules) (search rules)))  -- returns-else-a-eq0
