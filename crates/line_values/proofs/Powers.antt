@@ -33,13 +33,21 @@ held_exponent j = at (lt_or_le number_limit j)
     at (inr l) = ap (ltb exponent_limit) (held_small j l)
 
 -- 16 for an exponent over 32, and 0 for any other
-pub exponent_over : {l e : ℕ} → exponent_limit < e → l ≡ 16 → l ≡ judged (ltb exponent_limit e) false
+exponent_over : {l e : ℕ} → exponent_limit < e → l ≡ 16 → l ≡ judged (ltb exponent_limit e) false
 unfolding judged
 exponent_over {e = e} h q = q ∙ sym (ap (λ (b : Bool). judged b false) (lt-ltb exponent_limit e h))
 
-pub exponent_within : {l e : ℕ} → e ≤ exponent_limit → l ≡ 0 → l ≡ judged (ltb exponent_limit e) false
+exponent_within : {l e : ℕ} → e ≤ exponent_limit → l ≡ 0 → l ≡ judged (ltb exponent_limit e) false
 unfolding judged
 exponent_within {e = e} h q = q ∙ sym (ap (λ (b : Bool). judged b false) (le-ltb exponent_limit e h))
+
+-- both, as the code tests it
+pub exponent_test : {l e : ℕ} → (exponent_limit < e → l ≡ 16) → (e ≤ exponent_limit → l ≡ 0) → l ≡ judged (ltb exponent_limit e) false
+exponent_test {l} {e} over within = at (lt_or_le exponent_limit e)
+  where
+    at : (exponent_limit < e) ⊎ (e ≤ exponent_limit) → l ≡ judged (ltb exponent_limit e) false
+    at (inl h) = exponent_over h (over h)
+    at (inr h) = exponent_within h (within h)
 
 pub exponent_small : {l e : ℕ} → l ≡ judged (ltb exponent_limit e) false → l ≡ 0 → e ≤ exponent_limit
 exponent_small {l} {e} test z = ltb-false exponent_limit e (judged_none (ltb exponent_limit e) false (sym test ∙ z)).0

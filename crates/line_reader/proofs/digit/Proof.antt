@@ -1,7 +1,7 @@
 -- `line_reader::digit` meets its contract.
 -- Assumes nothing.
-use native.Mathlib.Omega.{arith}
 use Rattle.line_reader.proofs.Bytes.{digit_low, digit_here, digit_high}
+use native.Mathlib.Omega.{arith}
 use borrow.Author.Rules.{rules}
 use Rattle.line_reader.proofs.digit.Statement.{statement}
 use Rattle.line_reader.proofs.digit.Tie as tie
@@ -11,6 +11,6 @@ digit_spec =
     tie.close
     (tie.spec
     (λ c. search rules)  -- overflow_cast-result
-    (λ c. digit_low c.if-b-lt48.true)  -- returns-then-b-lt48
-    (λ c. digit_here c.before.if-b-lt48.false (omega arith))  -- returns-then-b-le57
+    (λ c. digit_low (omega arith))  -- returns-then-b-lt48
+    (λ c. digit_here (omega arith) (omega arith))  -- returns-then-b-le57
     (λ c. digit_high (omega arith)))  -- returns-else-b-le57

@@ -17,6 +17,6 @@ pattern_spec =
     (λ c. search rules)  -- offset_bounds-f-s
     (λ c. search rules)  -- bounds-f-s
     (λ c κs. search rules)  -- turned_back-requires-then-f-s-ne1
-    (λ c. pattern_leading c.before.before.before.size-s.ensures (omega arith) (search rules))  -- returns-then-f-s-ne1
+    (λ c. pattern_leading c.before.before.before.size-s.ensures (search rules) (search rules))  -- returns-then-f-s-ne1
     (λ c. search rules)  -- overflow_sub-result
-    (λ c. pattern_sheet c.before.before.size-s.ensures (omega arith) (omega arith)))  -- returns
+    (λ c. pattern_sheet c.before.before.size-s.ensures (omega arith) (search rules)))  -- returns

@@ -22,10 +22,10 @@ skip_spec =
     (tie.spec invariant-loop-i decreases-loop-i
     (λ c. (no_blanks, search rules))  -- loop-i-init
     (λ c. search rules)  -- bounds-s-i
-    (λ c. record { blanks = c.before.before.before.loop-i.invariant.0; within = search rules; ends = omega arith })  -- returns-then-s-i-ne32
+    (λ c. record { blanks = c.before.before.before.loop-i.invariant.0; within = search rules; ends = search rules })  -- returns-then-s-i-ne32
     (λ c. search rules)  -- overflow_add-i
     (λ c. search rules)  -- loop-i-smaller
-    (λ c. (one_blank c.before.before.before.loop-i.invariant.0 (search rules) (omega arith), search rules))  -- loop-i-preserved
+    (λ c. (one_blank c.before.before.before.loop-i.invariant.0 (search rules) (search rules), search rules))  -- loop-i-preserved
     (λ c.
     let past = get_or-eq_default c.before.before.args.s.now 0 c.loop-i-test.false in
     record { blanks = c.before.loop-i.invariant.0; within = search rules; ends = λ e. absurd (omega (arith, e, past)) }))  -- returns

@@ -1,7 +1,7 @@
 -- `line_values::of_product` meets its contract.
 -- Assumes nothing.
-use native.Mathlib.Omega.{arith}
 use mathlib.Core.Path.{refl}
+use native.Mathlib.Omega.{arith}
 use borrow.Author.Rules.{rules}
 use Rattle.arrays.specs.Sizes.{below_size}
 use Rattle.line_values.proofs.Products.{product_without, product_high, product_with}
@@ -31,7 +31,7 @@ of_product_spec =
     let s = c.before.before.before.size-s.ensures in
     let t = c.before.before.size-t.ensures in
     rw c.square.ensures
-    (pre.1.reduced none.0, pre.2.reduced none.1, s.limit, (omega arith), below_size _ s, below_size _ t))  -- product-requires
+    (pre.1.reduced none.0, pre.2.reduced none.1, s.limit, omega arith, below_size _ s, below_size _ t))  -- product-requires
     (λ c.
     let start = c.before.before.before.before.before.before.before in
     product_with start.before.worse-number.ensures start.before.before.requires.0 start.if-number-ne0.false c.before.before.before.before.size-s.ensures

@@ -1,6 +1,7 @@
 -- `line_values::worse` meets its contract.
 -- Assumes nothing.
 use native.Mathlib.Omega.{arith}
+use borrow.Author.Rules.{rules}
 use Rattle.line_values.proofs.Judging.{worse_first, worse_second, worse_none, worse_high}
 use Rattle.line_values.proofs.worse.Statement.{statement}
 use Rattle.line_values.proofs.worse.Tie as tie
@@ -12,4 +13,4 @@ worse_spec =
     (λ c. worse_first (omega arith))  -- returns-then-a-eq16
     (λ c. worse_second (omega arith))  -- returns-then-b-eq16
     (λ c. worse_none (omega arith))  -- returns-then-a-eq0
-    (λ c. worse_high (omega arith) (omega arith) (omega arith)))  -- returns-else-a-eq0
+    (λ c. worse_high (search rules) (search rules) (search rules)))  -- returns-else-a-eq0

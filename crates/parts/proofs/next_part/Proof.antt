@@ -14,8 +14,7 @@ next_part_spec =
     (λ c κs. let (L, w) = c.requires in last_given (none_after L w (omega arith)))  -- part_over-part-requires
     (λ c κs. search rules)  -- monomial-one-requires
     (λ c.
-    let e = c.before.before in
-    let (L, w) = e.before.before.requires in
+    let (L, w) = c.requires in
     last_found (none_after L w (omega arith)) c.part_over-part.ensures c.monomial-one.ensures)  -- returns-then-x-e
-    (λ c κs. let (L, w) = c.requires in some_after L w (omega arith))  -- first_part-requires
+    (λ c κs. let (L, w) = c.requires in some_after L w (search rules))  -- first_part-requires
     (λ c. search rules))  -- returns

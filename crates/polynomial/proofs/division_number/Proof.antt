@@ -1,6 +1,7 @@
 -- `polynomial::division_number` meets its contract.
 -- Assumes nothing.
 use mathlib.Core.Path.{◌≡◌}
+use Prim.Native.Nat.{ℕ}
 use native.Mathlib.Omega.{arith}
 use borrow.Author.Rules.{rules}
 use Rattle.specification.specs.Records.{division_number}
@@ -16,7 +17,7 @@ division_number_spec =
     (λ c κs. search rules)  -- pair_number-number-requires
     (λ c κs. search rules)  -- leading-requires
     (λ c.
-    let one : c.before.leading.result ≡ 1 = omega arith in
+    let one : ◌≡◌ {A = ℕ} c.before.leading.result 1 = omega arith in
     rw (← c.before.before.before.pair_number-number.ensures, c.before.before.if-number-eq0.true, ← c.before.leading.ensures, one))  -- returns-then-leading-eq1
     (λ c. rw (← c.before.before.before.pair_number-number.ensures, c.before.before.if-number-eq0.true, ← c.before.leading.ensures) (search cases))  -- returns-else-leading-eq1
     (λ c. rw (← c.before.pair_number-number.ensures) (search cases)))  -- returns-else-number-eq0

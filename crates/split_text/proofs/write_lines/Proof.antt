@@ -86,4 +86,4 @@ write_lines_spec =
     (λ c. search rules)  -- shape_of-out
     (λ c.
     let t = c.before.before.before.before.before.before.before in
-    wrote_as (whole (start (headed (summed t)))) (wrote_more (totalled t) c.write_run.ensures)))  -- returns
+    wrote_as (whole (start (headed (summed t)))) (wrote_more (totalled t) (search rules))))  -- returns

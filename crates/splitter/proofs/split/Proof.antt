@@ -1,22 +1,11 @@
 -- `splitter::split` meets its contract.
 -- Assumes nothing.
-use mathlib.Core.List.{List}
-use Prim.Native.Nat.{ℕ}
+use native.Mathlib.Omega.{arith}
 use borrow.Author.Rules.{rules}
-use Rattle.sheet_reader.proofs.ReadLaws.{Read, read_accepted, read_refused}
+use Rattle.sheet_reader.proofs.ReadLaws.{read_accepted, read_refused}
 use Rattle.splitter.specs.Outcomes.{called_refused, called_wrote, split_short, split_refused, split_answered}
 use Rattle.splitter.proofs.split.Statement.{statement}
 use Rattle.splitter.proofs.split.Tie as tie
-
--- the area is long enough where the sheet is read
-abbrev enough : tie.After-read_sheet-read → tie.Else-area-lt-AREA
-enough c = c.before
-
-abbrev sheet : tie.After-read_sheet-read → List ℕ
-sheet c = (enough c).before.before.before.args.sheet.now
-
-accepted : (c : tie.Else-read-ne0) → let n = c.before.before in Read (sheet n) n.read_sheet-read.result
-accepted c = let n = c.before.before in read_accepted (sheet n) _ n.read_sheet-read.ensures c.if-read-ne0.false
 
 pub split_spec : {M : Type 1} → statement M
 split_spec =
@@ -27,15 +16,14 @@ split_spec =
     (λ c κs. search rules)  -- read_sheet-read-requires
     (λ c κs. search rules)  -- refused-requires-then-read-ne0
     (λ c.
-    let n = c.before.before.before in
-    let r = read_refused (sheet n) _ n.read_sheet-read.ensures c.if-read-ne0.true in
-    called_refused (split_refused _ _ (enough n).if-area-lt-AREA.false r.reading) c.refused-then-read-ne0.ensures)  -- returns-then-read-ne0
+    let r = read_refused c.args.sheet.now _ c.read_sheet-read.ensures (search rules) in
+    called_refused (split_refused _ _ c.if-area-lt-AREA.false r.reading) (search rules))  -- returns-then-read-ne0
     (λ c κs.
-    let e = c.before.before in
-    ((accepted e).monic, (accepted e).good, (enough e.before.before).if-area-lt-AREA.false))  -- answer_to-requires
+    let r = read_accepted c.args.sheet.now _ c.read_sheet-read.ensures (omega arith) in
+    (r.monic, r.good, c.if-area-lt-AREA.false))  -- answer_to-requires
     (λ c κs. search rules)  -- success-requires
     (λ c. search rules)  -- shape_of-area
     (λ c.
-    let e = c.before.before.before.before.before.before in
-    called_wrote (split_answered _ _ (enough e.before.before).if-area-lt-AREA.false (accepted e).reading) c.success.ensures
+    let r = read_accepted c.args.sheet.now _ c.read_sheet-read.ensures (omega arith) in
+    called_wrote (split_answered _ _ c.if-area-lt-AREA.false r.reading) c.success.ensures
     c.answer_to.ensures))  -- returns
