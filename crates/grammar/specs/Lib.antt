@@ -1,8 +1,5 @@
 pub mod Machine
 pub mod Runs
-pub mod Stuck
-pub mod Standing
-pub mod Completes
 pub mod Stopping
 pub mod Readings
 pub mod Meanings
@@ -11,4 +8,3 @@ pub mod TypedOutcomes
 pub mod TreeParts
 pub mod TypedSheets
 pub mod TypedRefusals
-pub mod Trials

@@ -9,9 +9,9 @@ use Rattle.specification.specs.TypedLines.{Begins}
 use Rattle.grammar.specs.Machine.{Context, bottom, bracket, sum, difference, product, NoProduct, Fresh, multiplied}
 use Rattle.grammar.specs.Machine.{State, start, prime, primed, wants, number, term, wants_exponent, exponent, powered, stuck, after}
 use Rattle.grammar.specs.Runs.{alive}
-use Rattle.grammar.specs.Stuck.{begun}
-use Rattle.grammar.specs.Standing.{Pending, at_bottom, in_bracket, in_sum, in_difference, in_product, no_blanks, sign_here, as_product}
-use Rattle.grammar.specs.Standing.{TermRead, PowerRead, CaretRead, Reading, as_power_lem, number_read, raised_read, to_end, reads}
+use Rattle.grammar.proofs.Stuck.{begun}
+use Rattle.grammar.proofs.Standing.{Pending, at_bottom, in_bracket, in_sum, in_difference, in_product, no_blanks, sign_here, as_product}
+use Rattle.grammar.proofs.Standing.{TermRead, PowerRead, CaretRead, Reading, as_power_lem, number_read, raised_read, to_end, reads}
 
 -- ---- what is left to finish a line
 

@@ -12,7 +12,8 @@ use Rattle.lists.specs.Tests.{picked, left, right}
 use Rattle.grammar.specs.Machine.{Context, bottom, bracket, sum, difference, product, NoProduct, Fresh, Held, multiplied, added, summed, closed}
 use Rattle.grammar.specs.Machine.{State, start, prime, primed, wants, number, term, wants_exponent, exponent, powered, stuck}
 use Rattle.grammar.specs.Machine.{is_digit, after_prime, after_power, after_term, step, after}
-use Rattle.grammar.specs.Runs.{term_number, term_done, Ended, ended_term, ended_exponent, ended_powered, ExpressionRun, after_none, after_suc}
+use Rattle.grammar.specs.Runs.{term_number, term_done, Ended, ended_term, ended_exponent, ended_powered, ExpressionRun}
+use Rattle.grammar.proofs.Runs.{after_none, after_suc}
 
 -- what the context holds stands before place k, and a term is due there
 pub data Pending (s : List ℕ) : Context → ℕ → Type 0 where

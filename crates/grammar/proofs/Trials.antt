@@ -7,7 +7,8 @@ use Rattle.specification.specs.Open.{everything}
 use Rattle.specification.specs.TypedTrials.{TypedTrial, typed_trials, AllTyped, TypedTrials}
 use Rattle.grammar.specs.Machine.{multiplied, added, summed, closed, is_digit, after_prime, after_power, after_term, step, after}
 use Rattle.grammar.specs.Readings.{whole, ending, read_from, read_line}
-use Rattle.grammar.specs.TypedOutcomes.{answered, typed_outcome, outcome_typed}
+use Rattle.grammar.specs.TypedOutcomes.{answered, typed_outcome}
+use Rattle.grammar.proofs.TypedOutcomes.{outcome_typed}
 
 -- what the machine gives for a row's line
 abbrev worked : TypedTrial → TypedTrial

@@ -5,7 +5,8 @@ use Rattle.std.proofs.Common.{sym, ap, ◌∙◌, arith, length-append, get_or-t
 use Rattle.std.proofs.Math.ListN.{get_or-append}
 use Rattle.specification.specs.TypedLines.{Begins}
 use Rattle.grammar.specs.Machine.{stuck, step, after}
-use Rattle.grammar.specs.Runs.{after_none, after_suc, line_runs, alive, ended_alive}
+use Rattle.grammar.specs.Runs.{alive}
+use Rattle.grammar.proofs.Runs.{after_none, after_suc, line_runs, ended_alive}
 
 stuck_after : (s : List ℕ) (k n : ℕ) → after s k ≡ stuck → after s (n + k) ≡ stuck
 unfolding step
