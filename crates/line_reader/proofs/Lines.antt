@@ -15,8 +15,10 @@ use Rattle.specification.specs.TypedLines.{Typed, long_line, no_line, is_line}
 use Rattle.grammar.specs.Machine as machine
 use Rattle.grammar.specs.Machine.{Context, bottom, Fresh, wants, is_digit, step, stuck, after}
 use Rattle.grammar.specs.Runs as runs
-use Rattle.grammar.specs.Runs.{ExpressionRun, PrimeRead}
-use Rattle.grammar.specs.Stopping.{Stopped, stopped_is}
+use Rattle.grammar.specs.Runs.{ExpressionRun}
+use Rattle.grammar.proofs.Runs.{PrimeRead}
+use Rattle.grammar.specs.Stopping.{Stopped}
+use Rattle.grammar.proofs.Stopping.{stopped_is}
 use Rattle.line_values.specs.declared.Piece.{Piece}
 use Rattle.line_reader.specs.declared.TypedLine.{TypedLine}
 use Rattle.line_reader.specs.Levels as levels

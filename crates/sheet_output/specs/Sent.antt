@@ -10,7 +10,8 @@ use Rattle.specification.specs.TypedClaims.{typed_sheet}
 use Rattle.specification.specs.Text as text
 use Rattle.specification.specs.Text.{refusal_text, SheetSent}
 use Rattle.layouts.specs.SheetSize.{sheet_fits}
-use Rattle.grammar.specs.TypedOutcomes.{typed_once, typed_area, TypedNumbers, typed_numbers}
+use Rattle.grammar.proofs.TypedOutcomes.{typed_once}
+use Rattle.grammar.specs.TypedOutcomes.{typed_area, TypedNumbers, typed_numbers}
 use Rattle.area.specs.Wrote.{Wrote, Room, from_start_wrote}
 use Rattle.splitter.specs.declared.Outcome.{Outcome}
 use Rattle.splitter.specs.Outcomes.{TypedCall}

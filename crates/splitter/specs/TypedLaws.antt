@@ -11,7 +11,8 @@ use Rattle.specification.specs.Term3.{LongestIn}
 use Rattle.specification.specs.Grammar.{Tree, Line}
 use Rattle.specification.specs.TypedLines.{NoLine, Typed, short_area, long_line, no_line, is_line}
 use Rattle.specification.specs.TypedClaims.{SheetOfLine, typed_sheet, TooLarge, PrimeNotTaken, NoPattern}
-use Rattle.grammar.specs.TypedOutcomes.{typed_once, typed_numbers, Worked, worked_success, worked_4, worked_16, worked_17, worked_cases}
+use Rattle.grammar.proofs.TypedOutcomes.{typed_once}
+use Rattle.grammar.specs.TypedOutcomes.{typed_numbers, Worked, worked_success, worked_4, worked_16, worked_17, worked_cases}
 use Rattle.grammar.specs.TypedSheets.{line_sheet}
 use Rattle.claims.specs.Proved.{line_or_place, sheets_typed, typed_accepted, refusals_in_case}
 use Rattle.splitter.specs.declared.Outcome.{Outcome}

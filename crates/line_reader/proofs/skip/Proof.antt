@@ -5,7 +5,7 @@ use native.Mathlib.Omega.{arith}
 use borrow.Author.Rules.{rules}
 use lib.ListN.{length, get_or-eq_default}
 use Rattle.specification.specs.Grammar.{Blanks}
-use Rattle.grammar.specs.Standing.{no_blanks}
+use Rattle.grammar.proofs.Standing.{no_blanks}
 use Rattle.line_reader.proofs.Bytes.{one_blank}
 use Rattle.line_reader.proofs.skip.Statement.{statement}
 use Rattle.line_reader.proofs.skip.Tie as tie
