@@ -1,2 +1,2 @@
-// Copies of the definitions of document 02: theorems only, in specs/.
+// Copies of the definitions of document 02: theorems only, in specs/ and proofs/.
 #![tactic(auto)]

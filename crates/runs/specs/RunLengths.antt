@@ -1,5 +1,5 @@
 -- The run length: the least k from 1 to 65,535 for which x^k is congruent to 1 modulo f.
--- Proves that the specification's `run_length` is the number of `RunIs`, that only one number is, and, where p does not divide the constant
+-- Proves that the specification's `run_length` is that number, that one number only is that of `RunIs`, and, where p does not divide the constant
 -- coefficient, that there is a run. Assumes nothing.
 use Rattle.std.specs.Prelude.{◌≡◌, ℕ, ◌≤◌, ◌<◌, ◌-◌, ◌^◌, T}
 use Rattle.std.proofs.Common.{sym, ap, arith}
@@ -22,7 +22,7 @@ use Rattle.algebra.specs.CoefficientLists.{ℤ[x]/, 𝓩[x]/, poly, poly_monomia
 use Rattle.algebra.specs.ListDivision.{remainder_reduced, remainder_congruent}
 use Rattle.items.specs.MonicLists.{MonicList, monic_poly}
 use Rattle.items.specs.Enumeration.{polynomials_has, length_polynomials}
-use Rattle.runs.specs.PowersOfX.{One, powers_apart, x_coprime, test_one, one_claim}
+use Rattle.runs.specs.PowersOfX.{One, powers_apart, x_coprime, test_one}
 
 pub run_limit_lem : (p : ℕ) (f : spec.Poly) → run_length p f ≤ run_limit
 unfolding run_length
@@ -47,11 +47,6 @@ module _ {p : ℕ} (prime : Prime p) {d : ℕ} {f : spec.Poly} (m : MonicList (p
   -- so whatever is the least such number is the run length
   pub run_by : {r : ℕ} → Least (One (p ²) (poly (p ²) f)) run_limit r → r ≡ run_length p f
   run_by h = least_only h run_found
-
-  pub run_is : RunIs p f (run_length p f)
-  run_is =
-      let h : Least (DividesPower (p ²) f) run_limit (run_length p f) = least_same (one_claim large m) run_found in
-      record { within = h.within; divides = h.holds; least = h.least }
 
   -- ---- a run exists
 

@@ -10,8 +10,9 @@ use Rattle.algebra.specs.Numbers.{square_large}
 use Rattle.algebra.specs.Fields.{Prime}
 use Rattle.items.specs.MonicLists.{MonicList}
 use Rattle.runs.specs.PowersOfX.{one_claim}
-use Rattle.runs.specs.RunLengths.{run_least, run_is, run_unique, run_within}
+use Rattle.runs.specs.RunLengths.{run_least, run_unique, run_within}
 use Rattle.runs.specs.Patterns.{run_returns, begins_again, no_return}
+use Rattle.runs.proofs.RunLengths.{run_is}
 
 -- there are more powers of x than states, so two of them agree
 pub run_exists : {p : ℕ} → Prime p → {f : Poly} → MonicList (p ²) (degree f) f → T (has_run p f) → RunExists p f

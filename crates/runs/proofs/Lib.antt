@@ -1,0 +1,3 @@
+pub mod RunLengths
+pub mod NoRun
+pub mod RunsHold
