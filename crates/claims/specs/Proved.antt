@@ -45,7 +45,7 @@ use Rattle.lists.specs.Members.{◌∈◌, All, all_map}
 use Rattle.items.specs.MonicLists.{MonicList, from_claimed, monic_list_mul}
 use Rattle.items.specs.MonicDivision.{monic_list_one}
 use Rattle.items.specs.Reductions.{digit_lift_lem}
-use Rattle.items.specs.Items1to3Hold.{items}
+use Rattle.items.proofs.Items1to3Hold.{items}
 use Rattle.items.specs.PartForm.{base_monic}
 use Rattle.items.specs.PartValues.{values}
 use Rattle.items.specs.AlgorithmOrder as algorithm
@@ -57,22 +57,23 @@ use Rattle.items.specs.PartShapes.{PartShape, part_degrees, records}
 use Rattle.layouts.specs.AnswerSize.{answer_fits, answer_is_bytes}
 use Rattle.layouts.specs.AnswersAccepted as reader
 use Rattle.layouts.specs.AnswersAccepted.{split_written}
-use Rattle.items.specs.AllParts.{Known, known, parts_monic}
-use Rattle.items.specs.LongestHolds.{longest, different_records, part_longest}
-use Rattle.runs.specs.NoRun as none
-use Rattle.runs.specs.RunsHold.{run_holds}
+use Rattle.items.specs.AllParts.{Known, parts_monic}
+use Rattle.items.proofs.AllParts.{known}
+use Rattle.items.proofs.LongestParts.{longest, different_records, part_longest}
+use Rattle.runs.proofs.NoRun as none
+use Rattle.runs.proofs.RunsHold.{run_holds}
 use Rattle.settings.specs.SettingsCounted.{settings_counted}
 use Rattle.copies.specs.SortedPairs as sorted
 use Rattle.copies.specs.CopyReadBack as read
-use Rattle.copies.specs.CopySize.{copy_fits}
+use Rattle.copies.proofs.CopySize.{copy_fits}
 use Rattle.copies.specs.CopiesHold as seen
 use Rattle.copies.specs.CopiesHold.{copying, alike_exactly}
-use Rattle.grammar.specs.Readings as readings
+use Rattle.grammar.proofs.Readings as readings
 use Rattle.grammar.specs.TreeParts as parts
-use Rattle.grammar.specs.TypedOutcomes as outcomes
+use Rattle.grammar.proofs.TypedOutcomes as outcomes
 use Rattle.grammar.specs.TypedSheets as typed
 use Rattle.grammar.specs.TypedRefusals as refusals
-use Rattle.grammar.specs.Trials as trials
+use Rattle.grammar.proofs.Trials as trials
 
 module _ (s : Sheet) (g : GoodSheet s) where
   abbrev p : ℕ

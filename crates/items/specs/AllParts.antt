@@ -1,5 +1,6 @@
 -- The parts of f, as the specification finds them and as the theory of longest lists has them: `ring_parts`.
--- Proves that each is split by its factors, that their bars are pairwise coprime, and what they multiply and add up to. Assumes nothing.
+-- Proves of parts that are split by their factors (`Known`) that their bars are pairwise coprime, and what they multiply and add up to.
+-- Every part is split so: proofs/AllParts. Assumes nothing.
 use Rattle.std.specs.Prelude.{◌≡◌}
 use Rattle.std.proofs.Math.Path.{refl, sym, ap, ap₂, subst, ◌≡⟨◌⟩◌, ◌∎}
 use Rattle.std.proofs.Common.{◌∙◌}
@@ -10,7 +11,7 @@ use Prim.Native.Nat.{ℕ, ◌≤◌, ◌<◌, ◌+◌, ◌*◌}
 use native.Mathlib.Omega.{arith}
 use Rattle.std.proofs.Math.ListN.{length, length-append}
 use Rattle.specification.specs.Polynomials as spec
-use Rattle.specification.specs.Powers.{Power, powers, primary}
+use Rattle.specification.specs.Powers.{Power, primary}
 use Rattle.specification.specs.Parts.{Factor, part_of}
 use Rattle.specification.specs.Totals.{copies, list_of, different}
 use Rattle.specification.specs.Items1to3 as items1to3
@@ -31,13 +32,11 @@ use Rattle.items.specs.MonicLists.{MonicList, monic_poly, monic_list_mul}
 use Rattle.items.specs.MonicDivision.{monic_list_one}
 use Rattle.items.specs.Irreducibles.{irreducible_poly}
 use Rattle.items.specs.PowersOnly.{different_bases}
-use Rattle.items.specs.Reductions.{barred, digit_lift_lem, extension}
-use Rattle.items.specs.Items1to3Hold.{powers_are, items}
+use Rattle.items.specs.Reductions.{barred, extension}
 use Rattle.items.specs.DifferentMembers.{different_factors, different_append}
 use Rattle.items.specs.ListOfParts.{list_of_cons}
-use Rattle.items.specs.PartForm.{PartOver, part_over_lem, base_monic}
+use Rattle.items.specs.PartForm.{PartOver}
 use Rattle.items.specs.SplitPart.{SplitPart}
-use Rattle.items.specs.Verdicts.{part_splits}
 use Rattle.items.specs.PartShapes.{part_degrees, records}
 
 module _ (p : ℕ) (prime : Prime p) {d : ℕ} {f : spec.Poly} (mf : MonicList (p ²) d f) where
@@ -51,12 +50,6 @@ module _ (p : ℕ) (prime : Prime p) {d : ℕ} {f : spec.Poly} (mf : MonicList (
   pub record Known (P : Power) : Type 0 where
     pub over : PartOver p P.base P.exponent (primary p f P)
     pub split : SplitPart p prime.large P.base P.exponent (primary p f P) (part_of p f P).splitting.factors
-
-  pub known : All Known (powers p f)
-  known P i =
-      let h = (items p prime mf).part_holds P i in
-      let o = part_over_lem large ((powers_are p prime mf).irreducible P i) ((powers_are p prime mf).positive P i) h.monic h.bar in
-      record { over = o; split = part_splits prime o (digit_lift_lem p large (base_monic large o)) }
 
   -- of all but the first
   abbrev rest : {P : Power} {Ps : List Power} → All Known (P ∷ Ps) → All Known Ps

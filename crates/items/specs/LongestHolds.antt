@@ -1,53 +1,35 @@
--- Term 3 of the list that items 4 to 9 give for some of the parts of f: of all of them, and of one. Over every monic f and every prime.
--- Proves `longest` and `part_longest` from the theory of longest lists, and that the factors written are different ones. Assumes nothing.
-use Rattle.std.specs.Prelude.{◌≡◌, refl, ℕ, ◌≤◌, ◌<◌, ◌*◌, length}
+-- Term 3 of the list that items 4 to 9 give for some of the parts of f, over every monic f and every prime.
+-- Proves from the theory of longest lists what the list multiplies to, and how many different members a list as long has (`many_different`).
+-- That the list is a longest one: proofs/LongestHolds. Assumes nothing.
+use Rattle.std.specs.Prelude.{◌≡◌, ℕ, ◌≤◌, ◌<◌, length}
 use Rattle.std.proofs.Math.Path.{sym}
-use Rattle.std.proofs.Common.{◌∙◌, ap, subst, arith}
-use mathlib.Core.List.Memᴰ
-use mathlib.Core.List.{List, [], ◌∷◌, map, flat_map, append-nil, map-map}
+use Rattle.std.proofs.Common.{◌∙◌, ap, arith}
+use mathlib.Core.List.{List, map, map-map}
 use Rattle.std.proofs.lemmas.List.{length-map}
 use Rattle.specification.specs.Polynomials as spec
-use Rattle.specification.specs.Powers.{Power, powers, primary}
-use Rattle.specification.specs.Parts.{part_of, parts_of}
-use Rattle.specification.specs.Totals.{members, list_of, total, different}
+use Rattle.specification.specs.Powers.{Power, primary}
+use Rattle.specification.specs.Totals.{different}
 use Rattle.specification.specs.Longest as claimed
 use Rattle.specification.specs.Items1to3 as items1to3
 use Rattle.specification.specs.Limits.{◌²}
 use Rattle.algebra.specs.Numbers.{square_large}
 use Rattle.algebra.specs.Ring.{CommRing}
-use Rattle.algebra.specs.Divisibility.{product, product_one}
+use Rattle.algebra.specs.Divisibility.{product}
 use Rattle.algebra.specs.Homomorphisms.{monic_map}
 use Rattle.algebra.specs.Fields.{Prime, residue_nontrivial}
-use Rattle.algebra.specs.CoefficientLists.{ℤ[x]/, poly, poly_mul, poly_product, 𝓩[x]/}
-use Rattle.lists.specs.Members.{◌∈◌, All, all_cons, all_map}
+use Rattle.algebra.specs.CoefficientLists.{ℤ[x]/, poly, poly_product, 𝓩[x]/}
+use Rattle.lists.specs.Members.{All, all_map}
 use Rattle.lists.specs.Sums.{total as sum}
 use Rattle.factorisation.specs.MonicDivisors.{IsMonic, monics}
 use Rattle.factorisation.specs.Monics.{MonicMap}
 use Rattle.factorisation.specs.LongestLists.{Part, Apart, FactorList, LongestList, Proper, whole}
-use Rattle.factorisation.proofs.LongestLists.{length_at_most, no_product_lem}
 use Rattle.factorisation.proofs.FewestDifferent.{different_at_least}
 use Rattle.items.specs.MonicLists.{MonicList, monic_poly, from_claimed}
-use Rattle.items.specs.MonicDivision.{monic_list_product}
 use Rattle.items.specs.Factorisations.{monic_equal, factorisation, factorisation_product}
 use Rattle.items.specs.Reductions.{coefficients, barred, extension}
-use Rattle.items.specs.Items1to3Hold.{powers_are, items}
 use Rattle.items.specs.ListExtension.{monic_proper}
 use Rattle.items.specs.DifferentMembers.{decide, different_polys}
-use Rattle.items.specs.PartShapes.{records}
-use Rattle.items.specs.AllParts.{
-  Known,
-  known,
-  list_over,
-  ring_parts,
-  monic_parts,
-  parts_apart,
-  whole_is,
-  list_product,
-  list_size,
-  list_different,
-  list_records,
-  list_monic,
-}
+use Rattle.items.specs.AllParts.{Known, list_over, ring_parts, monic_parts, parts_apart, whole_is, list_product, list_size, list_monic}
 
 module _ (p : ℕ) (prime : Prime p) {d : ℕ} {f : spec.Poly} (mf : MonicList (p ²) d f) where
   abbrev 𝓐 : CommRing (ℤ[x]/ (p ²))
@@ -56,7 +38,7 @@ module _ (p : ℕ) (prime : Prime p) {d : ℕ} {f : spec.Poly} (mf : MonicList (
   abbrev large : 1 < p
   large = prime.large
 
-  positive : 0 < p ²
+  pub positive : 0 < p ²
   positive = omega (arith, square_large p large)
 
   -- ---- monic polynomials of degree 1 or more
@@ -78,7 +60,7 @@ module _ (p : ℕ) (prime : Prime p) {d : ℕ} {f : spec.Poly} (mf : MonicList (
     abbrev Q : List (Part (extension p large))
     Q = ring_parts p prime mf Ps h
 
-    apart : Apart (extension p large) Q
+    pub apart : Apart (extension p large) Q
     apart = parts_apart p prime mf Ps h order
 
     whole_F : whole (extension p large) Q ≡ poly (p ²) F
@@ -87,32 +69,32 @@ module _ (p : ℕ) (prime : Prime p) {d : ℕ} {f : spec.Poly} (mf : MonicList (
         ∙ sym (poly_product (p ²) positive (map (primary p f) Ps)) ∙ ap (poly (p ²)) law
 
     -- a list that multiplies to F
-    factors_F : {M : List spec.Poly} → claimed.Factorisation (p ²) F M → FactorList (extension p large) Q (map (poly (p ²)) M)
+    pub factors_F : {M : List spec.Poly} → claimed.Factorisation (p ²) F M → FactorList (extension p large) Q (map (poly (p ²)) M)
     factors_F {M} l = record {
       factors = factorisation_product (square_large p large) l ∙ sym whole_F;
       proper = all_map (Proper (extension p large)) (poly (p ²)) M (λ q i. monic_proper p large (l.monic q i));
     }
 
     -- the list of the definitions
-    abbrev L : List spec.Poly
+    abbrev pub L : List spec.Poly
     L = list_over p prime mf Ps
 
-    L_monic : All (claimed.Monic (p ²)) L
+    pub L_monic : All (claimed.Monic (p ²)) L
     L_monic = list_monic p prime mf Ps h
 
-    L_list : claimed.Factorisation (p ²) F L
+    pub L_list : claimed.Factorisation (p ²) F L
     L_list = factorisation (square_large p large) m_f L L_monic (list_product p prime mf Ps h ∙ whole_F)
 
     -- a list as long
-    longest_list : {M : List spec.Poly} → claimed.Factorisation (p ²) F M → length M ≡ length L
+    pub longest_list : {M : List spec.Poly} → claimed.Factorisation (p ²) F M → length M ≡ length L
         → LongestList (extension p large) Q (map (poly (p ²)) M)
     longest_list {M} l n = record { list = factors_F l; full = length-map M (poly (p ²)) ∙ n ∙ list_size p prime mf Ps h }
 
     -- how many different members the theory of longest lists gives
-    abbrev z : ℕ
+    abbrev pub z : ℕ
     z = sum (λ (q : Part (extension p large)). q.z) Q
 
-    many_different : (M : List spec.Poly) → claimed.Factorisation (p ²) F M → length M ≡ length L → z ≤ different M
+    pub many_different : (M : List spec.Poly) → claimed.Factorisation (p ²) F M → length M ≡ length L → z ≤ different M
     many_different M l n =
         omega (
           arith,
@@ -121,53 +103,3 @@ module _ (p : ℕ) (prime : Prime p) {d : ℕ} {f : spec.Poly} (mf : MonicList (
               (monic_parts p prime mf Ps h) (decide (p ²)),
           different_polys (p ²) M (λ a b i j. monic_equal (square_large p large) (is_monic (l.monic a i)) (is_monic (l.monic b j))),
         )
-
-    -- what is written has no more, and no fewer
-    different_over : different L ≡ z
-    different_over = omega (arith, list_different p prime mf Ps h, many_different L L_list refl)
-
-    pub longest_over : claimed.Longest (p ²) F (list_over p prime mf Ps) (length (list_over p prime mf Ps)) (different (list_over p prime mf Ps))
-    longest_over = record {
-      multiplies = L_list.multiplies;
-      total = refl;
-      different_total = refl;
-      irreducible = λ q i. record {
-        monic = L_monic q i;
-        no_product = λ a b m n k.
-            no_product_lem (extension p large) apart (longest_list L_list refl)
-            (poly (p ²) q) (Memᴰ.map (poly (p ²)) i) (poly (p ²) a) (poly (p ²) b) (monic_proper p large m) (monic_proper p large n)
-            (ap (poly (p ²)) (sym k) ∙ poly_mul (p ²) positive a b);
-      };
-      longest = λ M l. omega (arith, length_at_most (extension p large) apart (factors_F l), length-map M (poly (p ²)), list_size p prime mf Ps h);
-      fewest = λ M l n. omega (arith, different_over, many_different M l n);
-    }
-
-  -- ---- all parts, and one
-
-  pub longest : claimed.Longest (p ²) f (list_of (parts_of p f)) (total (parts_of p f)) (different (list_of (parts_of p f)))
-  unfolding parts_of
-  longest = longest_over (powers p f) (known p prime mf) (powers_are p prime mf).in_order mf (items p prime mf).parts_multiply
-
-  -- no two of the factors that are written are the same
-  pub different_records : different (list_of (parts_of p f)) ≡ records (parts_of p f)
-  unfolding parts_of
-  different_records =
-      different_over (powers p f) (known p prime mf) (powers_are p prime mf).in_order mf (items p prime mf).parts_multiply
-      ∙ sym (list_records p prime mf (powers p f) (known p prime mf))
-
-  pub part_longest : (P : Power) → P ∈ powers p f
-      → claimed.Longest (p ²) (primary p f P) (members (part_of p f P)) (length (members (part_of p f P))) (different (members (part_of p f P)))
-  part_longest P i =
-      let k = known p prime mf P i in
-      subst (λ (l : List spec.Poly). claimed.Longest (p ²) (primary p f P) l (length l) (different l)) alone
-      (longest_over (P ∷ []) (all_cons k (λ Q j. elim j [ ])) ((λ Q j. elim j [ ]), tt) k.over.monic one)
-    where
-      alone : list_over p prime mf (P ∷ []) ≡ members (part_of p f P)
-      alone = unfold list_of flat_map in append-nil (members (part_of p f P))
-
-      one : spec.product (p ²) (primary p f P ∷ []) ≡ primary p f P
-      one =
-          let m = (known p prime mf P i).over.monic in
-          let once = monic_list_product (square_large p large) (primary p f P ∷ []) (all_cons (P.exponent * spec.degree P.base, m) (λ q j. elim j [ ])) in
-          monic_equal (square_large p large) once.1 m
-          (poly_product (p ²) positive (primary p f P ∷ []) ∙ product_one 𝓐 (poly (p ²) (primary p f P)))

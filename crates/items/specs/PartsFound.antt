@@ -1,12 +1,11 @@
 -- Parts that were found, by whatever way: their bars are powers of different irreducibles, and they multiply to f.
--- Proves that the powers are those of item 1, in some order, and each part the primary one of item 2. Assumes nothing.
+-- Proves that the powers are those of item 1, in some order. Each part is the primary one of item 2: proofs/PartsFound. Assumes nothing.
 use Rattle.std.specs.Prelude.{◌≡◌, ℕ, ◌≤◌}
 use Rattle.std.proofs.Common.{sym, ◌∙◌, ap, arith}
 use Rattle.std.proofs.Math.Path.{◌≡⟨◌⟩◌, ◌∎}
-use mathlib.Core.List.Memᴰ
 use mathlib.Core.List.{List, map, map-map, Pairwise}
 use Rattle.specification.specs.Polynomials as spec
-use Rattle.specification.specs.Powers.{Power, primary}
+use Rattle.specification.specs.Powers.{Power}
 use Rattle.specification.specs.Longest as claimed
 use Rattle.specification.specs.Items1to3 as items1to3
 use Rattle.specification.specs.Limits.{◌²}
@@ -16,13 +15,11 @@ use Rattle.algebra.specs.Homomorphisms.{map_homomorphism, keeps_product}
 use Rattle.algebra.specs.Fields.{Prime, prime_pos}
 use Rattle.algebra.specs.CoefficientLists.{ℤ[x]/, poly, poly_product, 𝓩[x]/}
 use Rattle.lists.specs.Members.{All, all_map, map_equal}
-use Rattle.factorisation.specs.MemberProducts.{member_divides}
 use Rattle.items.specs.MonicLists.{MonicList, from_claimed}
 use Rattle.items.specs.MonicDivision.{monic_list_pow, monic_list_product}
 use Rattle.items.specs.Factorisations.{monic_equal}
 use Rattle.items.specs.Reductions.{coefficients, barred, bar_reduce, monic_reduce}
 use Rattle.items.specs.PowersSame.{DifferentBases}
-use Rattle.items.specs.PrimaryHolds.{part_only_lem}
 use Rattle.items.specs.PartForm.{PartOver}
 
 module _ (p : ℕ) (prime : Prime p) {d : ℕ} {f : spec.Poly} (mf : MonicList (p ²) d f) {A : Type 0} (power : A → Power) (part : A → spec.Poly)
@@ -31,7 +28,7 @@ module _ (p : ℕ) (prime : Prime p) {d : ℕ} {f : spec.Poly} (mf : MonicList (
   abbrev n : ℕ
   n = p ²
 
-  multiplied : product (𝓩[x]/ n) (map (poly n) (map part xs)) ≡ poly n f
+  pub multiplied : product (𝓩[x]/ n) (map (poly n) (map part xs)) ≡ poly n f
   multiplied = sym (poly_product n (omega (arith, square_large p prime.large)) (map part xs)) ∙ ap (poly n) multiplies
 
   irreducible : All (λ P. claimed.Irreducible p P.base) (map power xs)
@@ -73,11 +70,3 @@ module _ (p : ℕ) (prime : Prime p) {d : ℕ} {f : spec.Poly} (mf : MonicList (
     different = different;
     multiplies = monic_equal prime.large product_monic.1 (monic_reduce prime.large mf) bar_product;
   }
-
-  -- item 2
-  pub parts_found : All (λ x. part x ≡ primary p f (power x)) xs
-  parts_found x i = part_only_lem p prime mf powers_found (power x) (Memᴰ.map power i) (part x) (record {
-    monic = (over x i).monic;
-    bar = (over x i).bar;
-    divides = rw multiplied at (member_divides (𝓩[x]/ n) (Memᴰ.map (poly n) (Memᴰ.map part i)));
-  })

@@ -1,13 +1,10 @@
 -- Item 2, "in one way": f as a product of primary pairwise coprime polynomials modulo p², in any order.
--- Proves that the primary parts over the powers of item 1 are such a list, and that every such list is this one in some order.
+-- Proves that the primary parts over the powers of item 1 are such a list; every such list is this one in some order: proofs/PartsInOneWay.
 -- Assumes nothing.
 use Rattle.std.specs.Prelude.{◌≡◌, refl}
-use Rattle.std.proofs.Common.{sym, ◌∙◌, ap, subst, arith}
-use mathlib.Core.HLevel.{¬_prop, ⊥_prop}
-use mathlib.Core.List.Perm
-use mathlib.Core.List.Pairwise
-use mathlib.Core.List.{List, [], ◌∷◌, map, map-map, Pairwise, Perm}
-use mathlib.Core.List.Memᴰ.{head as here}
+use Rattle.std.proofs.Common.{sym, ◌∙◌, ap, arith}
+use mathlib.Core.HLevel.{⊥_prop}
+use mathlib.Core.List.{List, map}
 use Prim.Native.Nat.{ℕ, zero, suc, ◌≤◌}
 use Rattle.specification.specs.Polynomials as spec
 use Rattle.specification.specs.Powers.{Power, primary}
@@ -18,51 +15,21 @@ use Rattle.algebra.specs.Divisibility.{◌∣◌, Coprime, pow, coprime_sym, cop
 use Rattle.algebra.specs.Degree.{monic_one_lem}
 use Rattle.algebra.specs.Fields.{Prime, prime_pos, residue_field, residue_nontrivial}
 use Rattle.algebra.specs.CoefficientLists.{ℤ[x]/, poly, poly_mul, poly_pow, 𝓩[x]/}
-use Rattle.lists.specs.Members.{◌∈◌, All, all_tail, all_map, map_equal}
+use Rattle.lists.specs.Members.{◌∈◌, all_map}
 use Rattle.lists.specs.InOrder.{in_order_by, in_order_map, to_in_order, from_in_order}
 use Rattle.factorisation.proofs.Irreducible.{different_coprime}
 use Rattle.factorisation.specs.MonicDivisors.{divisor_degree}
 use Rattle.items.specs.MonicLists.{MonicList, monic_poly, from_claimed, to_claimed}
 use Rattle.items.specs.Irreducibles.{irreducible_poly}
-use Rattle.items.specs.PowersSame.{DifferentBases, same_base, powers_same_lem}
+use Rattle.items.specs.PowersSame.{DifferentBases, same_base}
 use Rattle.items.specs.PrimaryHolds.{primary_is, positive, parts_multiply_lem}
-use Rattle.items.specs.PartForm.{PartOver, part_over_lem}
-use Rattle.items.specs.PartsFound.{powers_found, parts_found}
 
 module _ (p : ℕ) where
-  -- ---- a list of primary polynomials, each with its power
-
   -- G divides G to the m
-  first_factor : (G : spec.Poly) (m : ℕ) → 1 ≤ m → (x : spec.Poly) × (spec.mul p G x ≡ spec.pow p G m)
+  pub first_factor : (G : spec.Poly) (m : ℕ) → 1 ≤ m → (x : spec.Poly) × (spec.mul p G x ≡ spec.pow p G m)
   unfolding spec.pow
   first_factor G zero l = absurd (omega arith)
   first_factor G (suc m) l = (spec.pow p G m, refl)
-
-  -- so powers of one base are not coprime
-  coprime_differ : {a b : spec.Poly} (P : items1to3.Primary p a) (Q : items1to3.Primary p b) → items1to3.Coprime p a b → DifferentBases P.power Q.power
-  coprime_differ P Q c e =
-      let (x, s) = first_factor P.power.base P.power.exponent P.positive in
-      let (y, t) = first_factor P.power.base Q.power.exponent Q.positive in
-      c P.power.base x y P.irreducible.monic (s ∙ sym P.bar)
-      (t ∙ ap (λ G. spec.pow p G Q.power.exponent) e ∙ sym Q.bar)
-
-  abbrev WithPower : Type 0
-  WithPower = (q : spec.Poly) × items1to3.Primary p q
-
-  abbrev part : WithPower → spec.Poly
-  part x = x.0
-
-  abbrev power : WithPower → Power
-  power x = x.1.power
-
-  with_powers : (L : List spec.Poly) → All (items1to3.Primary p) L → (xs : List WithPower) × (map part xs ≡ L)
-  with_powers [] h = ([], refl)
-  with_powers (q ∷ L) h = let (xs, e) = with_powers L (all_tail h) in ((q, h q (here refl)) ∷ xs, ap (λ M. q ∷ M) e)
-
-  bases_differ : (xs : List WithPower) → Pairwise (items1to3.Coprime p) (map part xs) → Pairwise DifferentBases (map power xs)
-  bases_differ xs c =
-      Pairwise.map {S = DifferentBases} (λ P Q. ¬_prop) power (λ x y. coprime_differ x.1 y.1) {l = xs}
-      (Pairwise.of_map' {S = items1to3.Coprime p} part {l = xs} c)
 
   coprime_prop : (a b : spec.Poly) → IsProp (items1to3.Coprime p a b)
   coprime_prop a b s t = λ i c x y m e g. ⊥_prop (s c x y m e g) (t c x y m e g) i
@@ -99,7 +66,7 @@ module _ (p : ℕ) where
               ∙ ap (poly p) (e ∙ (primary_is p prime mf items P i).bar) ∙ poly_pow p (prime_pos prime) P.base P.exponent,
         )
 
-    parts_hold : items1to3.PrimaryFactors p f (map (primary p f) Ps)
+    pub parts_hold : items1to3.PrimaryFactors p f (map (primary p f) Ps)
     parts_hold = record {
       primary = all_map (items1to3.Primary p) (primary p f) Ps (λ P i.
           let h = primary_is p prime mf items P i in
@@ -116,33 +83,3 @@ module _ (p : ℕ) where
           (to_in_order DifferentBases Ps items.different)));
       multiplies = parts_multiply_lem p prime mf items;
     }
-
-    -- any other such list
-    module _ (L : List spec.Poly) (h : items1to3.PrimaryFactors p f L) where
-      abbrev xs : List WithPower
-      xs = (with_powers L h.primary).0
-
-      parts_xs : map part xs ≡ L
-      parts_xs = (with_powers L h.primary).1
-
-      over : All (λ x. PartOver p (power x).base (power x).exponent (part x)) xs
-      over x i = part_over_lem prime.large x.1.irreducible x.1.positive x.1.monic x.1.bar
-
-      different : Pairwise DifferentBases (map power xs)
-      different = bases_differ xs (subst (Pairwise (items1to3.Coprime p)) (sym parts_xs) h.coprime)
-
-      multiplies : spec.product (p ²) (map part xs) ≡ f
-      multiplies = ap (spec.product (p ²)) parts_xs ∙ h.multiplies
-
-      listed : map (primary p f) (map power xs) ≡ L
-      listed =
-          map-map (primary p f) power xs
-          ∙ sym (map_equal part (λ x. primary p f (power x)) xs (parts_found p prime mf power part xs over different multiplies)) ∙ parts_xs
-
-      parts_only : Perm L (map (primary p f) Ps)
-      parts_only =
-          subst (λ M. Perm M (map (primary p f) Ps)) listed
-          (Perm.map (primary p f) (powers_same_lem p prime (powers_found p prime mf power part xs over different multiplies) items))
-
-    pub parts_same : items1to3.InOneWay (items1to3.PrimaryFactors p f) (map (primary p f) Ps)
-    parts_same = record { holds = parts_hold; only = parts_only }

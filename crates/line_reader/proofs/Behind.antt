@@ -11,7 +11,7 @@ use lib.ListN.{length, get_or}
 use Rattle.specification.specs.Grammar.{Tree, number, power, Blanks}
 use Rattle.grammar.specs.Machine as machine
 use Rattle.grammar.specs.Machine.{Context, bottom, bracket, State, wants, wants_exponent, stuck, is_digit, step, after, after_term, after_power, after_prime}
-use Rattle.grammar.specs.Runs as runs
+use Rattle.grammar.proofs.Runs as runs
 use Rattle.grammar.specs.Runs.{ExpressionRun, alive}
 use Rattle.grammar.proofs.Runs.{PrimeRead}
 use Rattle.grammar.specs.Stopping.{Open, Stopped}

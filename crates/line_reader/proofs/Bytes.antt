@@ -12,7 +12,7 @@ use borrow.Author.Tests.{lt-leb}
 use lib.Dec.{leb}
 use lib.ListN.{length, get_or, get_or-eq_default}
 use Rattle.specification.specs.Grammar.{At, Blanks, Between, first_digit, next_digit}
-use Rattle.grammar.specs.Standing as blanks
+use Rattle.grammar.proofs.Standing as blanks
 use Rattle.grammar.specs.Machine.{is_digit}
 use Rattle.line_values.specs.Worth.{held}
 use Rattle.line_values.specs.HeldNumbers.{held_small, held_bound, held_next}

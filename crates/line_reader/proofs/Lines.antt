@@ -14,7 +14,7 @@ use Rattle.specification.specs.Grammar.{Tree, At, Expression, line}
 use Rattle.specification.specs.TypedLines.{Typed, long_line, no_line, is_line}
 use Rattle.grammar.specs.Machine as machine
 use Rattle.grammar.specs.Machine.{Context, bottom, Fresh, wants, is_digit, step, stuck, after}
-use Rattle.grammar.specs.Runs as runs
+use Rattle.grammar.proofs.Runs as runs
 use Rattle.grammar.specs.Runs.{ExpressionRun}
 use Rattle.grammar.proofs.Runs.{PrimeRead}
 use Rattle.grammar.specs.Stopping.{Stopped}

@@ -12,7 +12,7 @@ use lib.ListN.{get_or}
 use Rattle.specification.specs.Grammar.{Tree, number, variable, power, times, plus, minus, At, Blanks, Between, one_product, sum, difference, one_power, product, one_term, raised, digits, x, brackets}
 use Rattle.grammar.specs.Machine as machine
 use Rattle.grammar.specs.Machine.{Context, bracket, State, NoProduct, Fresh, wants, wants_exponent, is_digit, step, after, after_term}
-use Rattle.grammar.specs.Runs as runs
+use Rattle.grammar.proofs.Runs as runs
 use Rattle.grammar.specs.Runs.{ExpressionRun}
 use Rattle.line_values.specs.declared.Piece.{Piece}
 use Rattle.line_values.specs.Worth.{Worth, Sound, IsPiece, OfNumber, OfX, OfSum, OfProduct, OfPower}

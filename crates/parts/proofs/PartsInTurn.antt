@@ -20,7 +20,7 @@ use Rattle.arrays.specs.Listed.{listed}
 use Rattle.arrays.specs.Held.{poly_monic}
 use Rattle.items.specs.PowersOnly.{any_order}
 use Rattle.items.specs.PrimaryHolds.{part_only_lem}
-use Rattle.items.specs.Items1to3Hold.{powers_are}
+use Rattle.items.proofs.Items1to3Hold.{powers_are}
 use Rattle.modp_factors.specs.declared.Power.{Power}
 use Rattle.modp_factors.specs.declared.Powers.{Powers}
 use Rattle.modp_factors.specs.Factors.{held_powers, PowerHeld, no_power}

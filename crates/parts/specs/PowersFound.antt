@@ -19,7 +19,7 @@ use Rattle.items.specs.MonicDivision.{monic_list_pow, monic_list_product}
 use Rattle.items.specs.Factorisations.{monic_equal}
 use Rattle.items.specs.Reductions.{monic_reduce}
 use Rattle.items.specs.ArrayLists.{square_list, bar_listed}
-use Rattle.items.specs.Items1to3Hold.{items}
+use Rattle.items.proofs.Items1to3Hold.{items}
 use Rattle.modp_factors.specs.declared.Power.{Power}
 use Rattle.modp_factors.specs.declared.Powers.{Powers}
 use Rattle.modp_factors.specs.Factors.{held_powers, power_poly, PowerBefore}

@@ -18,9 +18,10 @@ use Rattle.algebra.specs.CoefficientLists.{poly, poly_product}
 use Rattle.lists.specs.Members.{◌∈◌, All}
 use Rattle.lists.specs.Sums.{total}
 use Rattle.items.specs.MonicLists.{MonicList}
-use Rattle.items.specs.Items1to3Hold.{items}
-use Rattle.items.specs.AllParts.{Known, known}
-use Rattle.items.specs.LongestHolds.{longest}
+use Rattle.items.proofs.Items1to3Hold.{items}
+use Rattle.items.specs.AllParts.{Known}
+use Rattle.items.proofs.AllParts.{known}
+use Rattle.items.proofs.LongestParts.{longest}
 use Rattle.items.specs.Factorisations.{factorisation}
 use Rattle.settings.specs.Numberings.{Numbered, each_numbered, carried}
 use Rattle.settings.specs.DigitStrings.{counted}

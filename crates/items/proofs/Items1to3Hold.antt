@@ -18,7 +18,8 @@ use Rattle.items.specs.PowersSame.{powers_same_lem}
 use Rattle.items.specs.PowersOnly.{any_order, powers_only_lem}
 use Rattle.items.specs.PrimaryHolds.{IsPart, primary_is, part_only_lem, parts_multiply_lem, positive}
 use Rattle.items.specs.PartForm.{part_over_lem}
-use Rattle.items.specs.PartsSame.{parts_coprime_lem, parts_same}
+use Rattle.items.specs.PartsSame.{parts_coprime_lem}
+use Rattle.items.proofs.PartsInOneWay.{parts_same}
 
 module _ (p : ℕ) (prime : Prime p) {d : ℕ} {f : spec.Poly} (mf : MonicList (p ²) d f) where
   pub powers_are : items1to3.PowersOf p (spec.reduce p f) (powers p f)

@@ -1,0 +1,9 @@
+pub mod PartsFound
+pub mod PartsSame
+pub mod PartsInOneWay
+pub mod Items1to3Hold
+pub mod Verdicts
+pub mod Recognised
+pub mod AllParts
+pub mod LongestHolds
+pub mod LongestParts
