@@ -11,7 +11,6 @@ use Rattle.algebra.specs.Fields.{Prime, taken_prime, prime_taken, prime_pos}
 use Rattle.lists.specs.Tests.{passes}
 use Rattle.lists.specs.AllAny.{all_member, member_passes}
 use Rattle.lists.specs.NumbersFrom.{up_from_has}
-
 use Rattle.algebra.specs.TakenPrimes.{fits_byte, prime_number_lem, number_prime}
 
 -- "All 54 primes below 256 are taken", and no other number

@@ -10,7 +10,6 @@ use Rattle.algebra.specs.Fields.{Field, field_cancel}
 use Rattle.algebra.specs.Bezout.{MonicBezout, bezout_coprime, bezout_monic}
 use Rattle.factorisation.specs.PrimeElements.{PrimeElement}
 use Rattle.factorisation.specs.MonicDivisors.{monic_nonzero, divisor_degree}
-
 use Rattle.factorisation.specs.Irreducible.{Irreducible, irreducible_prime, monic_divisor}
 
 module _ {R : Type 0} {𝓡 : CommRing R} (field : Field 𝓡) where

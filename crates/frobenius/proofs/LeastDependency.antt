@@ -26,7 +26,6 @@ use Rattle.algebra.specs.Fields.{Field}
 use Rattle.frobenius.specs.LinearMaps.{apply, apply_multiple, apply_sub_multiple, apply_monomial}
 use Rattle.frobenius.specs.Span.{less, coef_less, Span, Slot, Clear, span_𝟎, span_add, span_multiple, span_row, span_insert}
 use Rattle.frobenius.specs.RowReduction.{Between, Stage, Reducing}
-
 use Rattle.frobenius.proofs.Span.{span_clear}
 
 -- m images, n slots

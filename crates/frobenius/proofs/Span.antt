@@ -24,7 +24,6 @@ use Rattle.algebra.specs.PolynomialRing.{
   constant_mul,
 }
 use Rattle.algebra.specs.Degree.{Below, Monic, below_𝟎, below_up, below_add, below_constant_mul}
-
 use Rattle.frobenius.specs.Span.{less, coef_less, less_𝟎, less_𝟘, Span, Slot, Clear, row_below}
 
 module _ {R : Type 0} {𝓡 : CommRing R} where

@@ -14,7 +14,6 @@ use Rattle.factorisation.specs.Irreducible.{Irreducible}
 use Rattle.factorisation.specs.Multiplicity.{Multiplicity, multiplicity, power_divides, power_bound}
 use Rattle.factorisation.specs.SquareFree.{SquareFree}
 use Rattle.frobenius.specs.Derivatives.{derivative, derivative_mul, derivative_pow}
-
 use Rattle.frobenius.specs.SquareFreeQuotients.{power_divides_derivative}
 
 module _ {p : ℕ} where

@@ -101,8 +101,7 @@ least_dependency_spec =
     let left = loop.invariant.1.reduced begun.before.if-fresh.false in
     let fits = loop.invariant.1.limit in
     let slots = loop.invariant.0.slots in
-    let stored = row_stored (omega (arith, slots.0, fits, pos)) (omega (arith, slots.1, fits, pos)) c.store.ensures in
-    (
+    let stored = row_stored (omega (arith, slots.0, fits, pos)) (omega (arith, slots.1, fits, pos)) c.store.ensures in (
       searching_more turn.before.before.requires.0 turn.loop-i-test.true loop.invariant.0 left pos (omega arith) stored,
       none_in_hand fits,
     ))  -- loop-i-preserved-then-rows-k-eq0
