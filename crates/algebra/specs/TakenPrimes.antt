@@ -1,7 +1,7 @@
 -- Taken primes, as the contracts have them: `taken p ≡ true`.
 -- Proves that they are primes that fit a byte, 54 of them, that the square of one is over 1 and has 16 bits, and which squares have
 -- numbers of one byte below them. Assumes nothing.
-use Rattle.std.specs.Prelude.{◌≡◌, refl, Bool, true, false, ◌⊎◌, ◌≢◌, ◌↔◌, ℕ, zero, suc, ◌≤◌, ◌<◌, ◌*◌, ◌/◌, ◌%◌, length, get_or}
+use Rattle.std.specs.Prelude.{◌≡◌, refl, Bool, true, false, ◌⊎◌, ◌≢◌, ℕ, zero, suc, ◌≤◌, ◌<◌, ◌*◌, ◌/◌, ◌%◌, length, get_or}
 use Rattle.std.proofs.Common.{sym, ◌∙◌, ap, subst, inl, inr, ⊎_elim, zero-le, zero-mul, one-mul, mul-le-mul, mul-le-mul_left, div-add-mod', arith, leb-false}
 use Rattle.std.proofs.Math.Nat.{mul-mod_right}
 use Rattle.std.proofs.Math.Dec.{T, ltb, ltb→lt}
@@ -9,8 +9,7 @@ use Rattle.specification.specs.Limits.{primes, taken, wide, ◌²}
 use Rattle.specification.specs.Lists.{all_pass, up_from}
 use Rattle.specification.specs.PrimeClaims.{PrimeNumber}
 use Rattle.algebra.specs.Numbers.{square_large}
-use Rattle.algebra.specs.Fields.{Prime, taken_prime, prime_taken, prime_pos}
-use Rattle.lists.specs.Tests.{passes}
+use Rattle.algebra.specs.Fields.{Prime, taken_prime, prime_pos}
 use Rattle.lists.specs.AllAny.{all_member, member_passes}
 use Rattle.lists.specs.NumbersFrom.{up_from_has}
 

@@ -4,7 +4,6 @@ use Rattle.std.specs.Prelude.{◌≡◌, true, ◌≤◌}
 use Rattle.std.proofs.Common.{arith}
 use Rattle.std.proofs.Math.ListN.{length}
 use Rattle.specification.specs.Limits.{taken, degree_limit, ◌²}
-use Rattle.specification.specs.Polynomials.{degree}
 use Rattle.specification.specs.Sheets.{Sheet}
 use Rattle.specification.specs.Copy.{pairs_of, Figures, figures_of, copy_of}
 use Rattle.specification.specs.CopyClaims.{copy}

@@ -1,15 +1,10 @@
 -- Proves that two irreducible polynomials over a field are equal or coprime. Assumes nothing.
-use Rattle.std.specs.Prelude.{◌≡◌, ◌⊎◌, ◌≢◌, ℕ, zero, suc, ◌≤◌, ◌+◌}
-use Rattle.std.proofs.Common.{sym, ◌∙◌, ap, inl, inr, ⊎_elim, arith}
+use Rattle.std.specs.Prelude.{◌≡◌, ◌⊎◌, ◌≢◌}
+use Rattle.std.proofs.Common.{◌∙◌, inl, inr, ⊎_elim}
 use Rattle.algebra.specs.Ring.{CommRing}
 use Rattle.algebra.specs.Divisibility.{◌∣◌, Coprime}
-use Rattle.algebra.specs.PolynomialRing.{Poly, PolyRing, ◌·◌, 𝟎, 𝟏, coef_zero}
-use Rattle.algebra.specs.Degree.{Monic, coef_top, monic_one_lem, monic_zero, monic_cancel}
-use Rattle.algebra.specs.Leading.{Leading, leading, monic_cofactor}
-use Rattle.algebra.specs.Fields.{Field, field_cancel}
-use Rattle.algebra.specs.Bezout.{MonicBezout, bezout_coprime, bezout_monic}
-use Rattle.factorisation.specs.PrimeElements.{PrimeElement}
-use Rattle.factorisation.specs.MonicDivisors.{monic_nonzero, divisor_degree}
+use Rattle.algebra.specs.PolynomialRing.{Poly, PolyRing, 𝟏}
+use Rattle.algebra.specs.Fields.{Field}
 use Rattle.factorisation.specs.Irreducible.{Irreducible, irreducible_prime, monic_divisor}
 
 module _ {R : Type 0} {𝓡 : CommRing R} (field : Field 𝓡) where

@@ -1,36 +1,19 @@
 -- Settings of one part: its longest lists, the member of highest multiplicity last.
 -- Proves that all members but the last have the bar G; LastMember has what they leave of the part. Assumes nothing.
-use Rattle.std.specs.Prelude.{◌≡◌, refl, ◌⊎◌, List, [], ◌∷◌, length, ℕ, suc, ◌≤◌, ◌-◌, ◌+◌}
+use Rattle.std.specs.Prelude.{◌≡◌, refl, ◌⊎◌, List, ◌∷◌, ℕ, suc, ◌≤◌, ◌+◌}
 use Rattle.std.proofs.Common.{sym, ◌∙◌, ap, inl, inr, ⊎_elim, arith}
 use mathlib.Core.List.Memᴰ.{head as here}
 use mathlib.Core.List.Memᴰ.{tail as there}
 use Rattle.algebra.specs.Numbers.{lt_or_le}
-use Rattle.algebra.specs.Ring.{CommRing, linear3, zero_mul, add_left_cancel}
-use Rattle.algebra.specs.Identities.{con, ◌⊕◌, ◌⊖◌, ◌⊗◌, ◌≈◌, solve}
-use Rattle.algebra.specs.Divisibility.{
-  ◌∣◌ as Divides,
-  pow,
-  pow_zero,
-  pow_one,
-  pow_add,
-  pow_divides,
-  product,
-  product_nil,
-  product_cons,
-  divides_refl,
-  divides_mul,
-  divides_mul_both,
-  divides_add,
-  divides_trans,
-}
-use Rattle.algebra.specs.Homomorphisms.{keeps_zero}
+use Rattle.algebra.specs.Ring.{CommRing, add_left_cancel}
+use Rattle.algebra.specs.Divisibility.{◌∣◌ as Divides, pow, pow_one, pow_divides, divides_trans}
 use Rattle.algebra.specs.Extension.{Extension}
-use Rattle.lists.specs.Members.{◌∈◌, All, all_cons, all_tail}
+use Rattle.lists.specs.Members.{◌∈◌, All, all_cons}
 use Rattle.factorisation.specs.MemberProducts.{member_divides}
-use Rattle.lists.specs.Sums.{total, total_nil, total_cons, total_one, total_mono, total_equal, member_le}
+use Rattle.lists.specs.Sums.{total, total_cons, total_one, total_mono, total_equal, member_le}
 use Rattle.factorisation.specs.PrimeElements.{pow_injective}
-use Rattle.factorisation.specs.ExtensionLaws.{bars, bar_pow, bar_pow_π, difference, π_injective}
-use Rattle.factorisation.specs.LongestLists.{Part, Proper, bar_P}
+use Rattle.factorisation.specs.ExtensionLaws.{bar_pow_π, π_injective}
+use Rattle.factorisation.specs.LongestLists.{Part, bar_P}
 use Rattle.factorisation.specs.Monics.{Monics}
 use Rattle.factorisation.specs.Blocks.{multiplicity, divisor_bar, divisor_pos}
 use Rattle.factorisation.specs.Settings.{Setting, Form, form, Power}

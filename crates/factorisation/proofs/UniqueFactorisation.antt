@@ -1,29 +1,13 @@
 -- Factorisations of f over a field into powers G^m of different irreducible G.
 -- Proves that G is coprime to the product of the other powers, that two factorisations of f have the same members, that they are equal where both are in
 -- order by a strict order of the bases, and that a power has one base. Assumes nothing.
-use Rattle.std.specs.Prelude.{◌≡◌, refl, List, [], ◌∷◌, map, ◌⊎◌, ◌≢◌, ℕ, ◌≤◌}
+use Rattle.std.specs.Prelude.{◌≡◌, refl, List, [], ◌∷◌, ◌⊎◌, ◌≢◌, ℕ, ◌≤◌}
 use Rattle.std.proofs.Common.{sym, ◌∙◌, ap, inl, inr, ⊎_elim}
 use mathlib.Core.List.Memᴰ
 use mathlib.Core.List.Memᴰ.{head as here}
 use mathlib.Core.List.Memᴰ.{tail as there}
 use Rattle.algebra.specs.Ring.{CommRing, mul_left_comm}
-use Rattle.algebra.specs.Divisibility.{
-  ◌∣◌,
-  Coprime,
-  pow,
-  pow_one,
-  pow_divides,
-  product,
-  product_nil,
-  product_one,
-  product_cons,
-  divides_mul_right,
-  coprime_sym,
-  coprime_one,
-  coprime_mul,
-  coprime_pow,
-  gauss,
-}
+use Rattle.algebra.specs.Divisibility.{◌∣◌, Coprime, pow, pow_one, pow_divides, product_nil, product_one, divides_mul_right, coprime_one, coprime_mul, coprime_pow, gauss}
 use Rattle.algebra.specs.PolynomialRing.{Poly, PolyRing, ◌·◌}
 use Rattle.algebra.specs.Fields.{Field}
 use Rattle.lists.specs.Members.{◌∈◌, All, all_cons, all_tail}
@@ -31,7 +15,7 @@ use Rattle.lists.specs.InOrder.{StrictOrder, InOrder, in_order_unique}
 use Rattle.factorisation.specs.Irreducible.{Irreducible, irreducible_prime}
 use Rattle.factorisation.proofs.Irreducible.{same_or_coprime, different_coprime}
 use Rattle.factorisation.specs.Multiplicity.{Multiplicity, coprime_not_divides, multiplicity_unique}
-use Rattle.factorisation.specs.UniqueFactorisation.{power, powers, powers_cons, PowersOf, Others, power_coprime}
+use Rattle.factorisation.specs.UniqueFactorisation.{power, powers, powers_cons, PowersOf, Others}
 
 module _ {R : Type 0} {𝓡 : CommRing R} where
   module _ (field : Field 𝓡) where

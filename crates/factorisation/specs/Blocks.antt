@@ -1,36 +1,22 @@
 -- A list falls into blocks: its members in the class of a part, and the rest.
 -- Proves that the bars of the divisors of a part are powers of the prime element. Assumes nothing.
 use Rattle.std.specs.Prelude.{◌≡◌, refl, List, [], ◌∷◌, length, ℕ, zero, suc, ◌≤◌}
-use Rattle.std.proofs.Common.{sym, ◌∙◌, ap, inl, inr, zero-le, suc-le-suc, arith}
+use Rattle.std.proofs.Common.{sym, ◌∙◌, ap, inl, inr, zero-le, suc-le-suc}
 use mathlib.Core.List.Memᴰ
 use mathlib.Core.List.Memᴰ.{head as here}
 use mathlib.Core.List.Memᴰ.{tail as there}
 use Rattle.algebra.specs.Ring.{CommRing}
 use Rattle.algebra.specs.Identities.{◌⊗◌, ◌≈◌, solve}
-use Rattle.algebra.specs.Divisibility.{
-  ◌∣◌ as Divides,
-  Coprime,
-  pow,
-  pow_zero,
-  product,
-  product_nil,
-  product_cons,
-  divides_refl,
-  coprime_sym,
-  coprime_one,
-  coprime_mul,
-  coprime_pow,
-  gauss,
-}
+use Rattle.algebra.specs.Divisibility.{◌∣◌ as Divides, Coprime, pow, pow_zero, product, product_nil, product_cons, divides_refl, coprime_one, coprime_mul}
 use Rattle.algebra.specs.Homomorphisms.{keeps_divides}
 use Rattle.algebra.specs.Extension.{Extension}
 use Rattle.lists.specs.Members.{◌∈◌, All, all_cons}
 use Rattle.lists.specs.Sums.{total_nil, total_cons_zero, total_cons_one}
 use Rattle.factorisation.specs.PrimeElements.{exponent, divisor_of_power}
-use Rattle.factorisation.specs.ExtensionLaws.{bar_one, bar_mul, coprime_lift, coprime_bar_product}
+use Rattle.factorisation.specs.ExtensionLaws.{bar_one, bar_mul}
 use Rattle.factorisation.specs.Classes.{Cases, class_cases}
-use Rattle.factorisation.specs.LongestLists.{Part, Apart, LongestList, Proper, Cofactor, within, members_in, bar_P, cofactor}
-use Rattle.factorisation.specs.Monics.{Monics, monic_pow, monic_product}
+use Rattle.factorisation.specs.LongestLists.{Part, Proper, within, members_in, bar_P}
+use Rattle.factorisation.specs.Monics.{Monics, monic_pow}
 
 module _ {A B : Type 0} {𝓐 : CommRing A} {𝓑 : CommRing B} {bar : A → B} (E : Extension 𝓐 𝓑 bar) where
   infixl 70 ◌*ᴿ◌

@@ -2,7 +2,7 @@
 -- Proves that there are no zero divisors, that a monic divisor of an irreducible polynomial is 𝟏 or it, and that an irreducible polynomial
 -- is a prime element. Assumes nothing.
 use Rattle.std.specs.Prelude.{◌≡◌, ◌⊎◌, ◌≢◌, ℕ, zero, suc, ◌≤◌, ◌+◌}
-use Rattle.std.proofs.Common.{sym, ◌∙◌, ap, inl, inr, ⊎_elim, arith}
+use Rattle.std.proofs.Common.{sym, ◌∙◌, ap, inl, inr, arith}
 use Rattle.algebra.specs.Ring.{CommRing}
 use Rattle.algebra.specs.Divisibility.{◌∣◌, Coprime}
 use Rattle.algebra.specs.PolynomialRing.{Poly, PolyRing, ◌·◌, 𝟎, 𝟏, coef_zero}

@@ -1,20 +1,18 @@
 -- Lists of non-units with the product of given parts P = g^m + π·h, whose bars are pairwise coprime; s is claimed of each part.
 -- Proves: no such list has more than Σ s members (B); in a list of Σ s members, each is in exactly one class and the class of a part
 -- has exactly s members (D), and no member is a product of two non-units (C). Assumes nothing.
-use Rattle.std.specs.Prelude.{◌≡◌, refl, ◌⊎◌, ◌≢◌, List, [], ◌∷◌, map, length, ℕ, zero, suc, ◌≤◌}
+use Rattle.std.specs.Prelude.{◌≡◌, ◌⊎◌, List, [], ◌∷◌, map, length, ℕ, ◌≤◌}
 use Rattle.std.proofs.Common.{sym, ◌∙◌, ap, inl, inr, arith}
 use mathlib.Core.List.Memᴰ
 use Rattle.algebra.specs.Ring.{CommRing}
 use Rattle.algebra.specs.Identities.{◌⊗◌, ◌≈◌, solve}
-use Rattle.algebra.specs.Divisibility.{◌∣◌ as Divides, Coprime, pow, product, product_cons, coprime_sym, coprime_mul, coprime_pow, gauss}
-use Rattle.algebra.specs.Homomorphisms.{keeps_divides}
+use Rattle.algebra.specs.Divisibility.{◌∣◌ as Divides, Coprime, pow, product, product_cons, coprime_sym, coprime_mul, coprime_pow}
 use Rattle.algebra.specs.Extension.{Extension}
-use Rattle.lists.specs.Members.{◌∈◌, All, all_map, replace, replace_length, replace_all}
-use Rattle.factorisation.specs.MemberProducts.{member_divides, replace_product}
-use Rattle.lists.specs.Sums.{total, total_cons, total_one, total_mono, total_equal, total_swap, member_le}
+use Rattle.lists.specs.Members.{◌∈◌, All, all_map}
+use Rattle.lists.specs.Sums.{total, total_cons, member_le}
 use Rattle.factorisation.specs.PrimeElements.{PrimeElement}
 use Rattle.factorisation.specs.ExtensionLaws.{number, bar_mul, bar_pow_π, coprime_bar_product}
-use Rattle.factorisation.specs.Classes.{in_class, class_size, outside_coprime, class_bound}
+use Rattle.factorisation.specs.Classes.{in_class, class_size, outside_coprime}
 
 module _ {A B : Type 0} {𝓐 : CommRing A} {𝓑 : CommRing B} {bar : A → B} (E : Extension 𝓐 𝓑 bar) where
   infixl 60 ◌+ᴿ◌

@@ -1,38 +1,18 @@
 -- Settings of one part: its longest lists, the member of highest multiplicity last.
 -- Proves what form a product of members whose bars are powers of G has. Assumes nothing.
-use Rattle.std.specs.Prelude.{◌≡◌, refl, ◌⊎◌, List, [], ◌∷◌, length, ℕ, suc, ◌≤◌, ◌-◌, ◌+◌}
-use Rattle.std.proofs.Common.{sym, ◌∙◌, ap, inl, inr, ⊎_elim, arith}
+use Rattle.std.specs.Prelude.{◌≡◌, refl, List, [], ◌∷◌, length, ℕ, suc, ◌≤◌, ◌-◌}
+use Rattle.std.proofs.Common.{sym, ◌∙◌, arith}
 use mathlib.Core.List.Memᴰ.{head as here}
-use mathlib.Core.List.Memᴰ.{tail as there}
-use Rattle.algebra.specs.Numbers.{lt_or_le}
-use Rattle.algebra.specs.Ring.{CommRing, linear3, zero_mul, add_left_cancel}
+use Rattle.algebra.specs.Ring.{CommRing, linear3, zero_mul}
 use Rattle.algebra.specs.Identities.{con, ◌⊕◌, ◌⊖◌, ◌⊗◌, ◌≈◌, solve}
-use Rattle.algebra.specs.Divisibility.{
-  ◌∣◌ as Divides,
-  pow,
-  pow_zero,
-  pow_one,
-  pow_add,
-  pow_divides,
-  product,
-  product_nil,
-  product_cons,
-  divides_refl,
-  divides_mul,
-  divides_mul_both,
-  divides_add,
-  divides_trans,
-}
+use Rattle.algebra.specs.Divisibility.{◌∣◌ as Divides, pow, pow_zero, pow_add, pow_divides, product, product_nil, product_cons, divides_refl, divides_mul, divides_mul_both, divides_add, divides_trans}
 use Rattle.algebra.specs.Homomorphisms.{keeps_zero}
 use Rattle.algebra.specs.Extension.{Extension}
-use Rattle.lists.specs.Members.{◌∈◌, All, all_cons, all_tail}
-use Rattle.factorisation.specs.MemberProducts.{member_divides}
-use Rattle.lists.specs.Sums.{total, total_nil, total_cons, total_one, total_mono, total_equal, member_le}
-use Rattle.factorisation.specs.PrimeElements.{pow_injective}
-use Rattle.factorisation.specs.ExtensionLaws.{bars, bar_pow, bar_pow_π, difference, π_injective}
-use Rattle.factorisation.specs.LongestLists.{Part, Proper, bar_P}
-use Rattle.factorisation.specs.Monics.{Monics}
-use Rattle.factorisation.specs.Blocks.{multiplicity, divisor_bar, divisor_pos}
+use Rattle.lists.specs.Members.{All, all_tail}
+use Rattle.lists.specs.Sums.{total, total_nil, total_cons}
+use Rattle.factorisation.specs.ExtensionLaws.{bars, bar_pow, difference}
+use Rattle.factorisation.specs.LongestLists.{Part, Proper}
+use Rattle.factorisation.specs.Blocks.{multiplicity}
 
 module _ {A B : Type 0} {𝓐 : CommRing A} {𝓑 : CommRing B} {bar : A → B} (E : Extension 𝓐 𝓑 bar) (Monic : B → Type 0) (q : Part E) where
   infixl 60 ◌+ᴿ◌

@@ -1,34 +1,12 @@
 -- Factorisations of f over a field into powers G^m of different irreducible G, as lists of pairs (G, m): `PowersOf f l`; `Others P f`, what is left of f
 -- beside a power. Proves laws of such products. Assumes nothing.
-use Rattle.std.specs.Prelude.{◌≡◌, refl, List, [], ◌∷◌, map, ◌⊎◌, ◌≢◌, ℕ, ◌≤◌}
-use Rattle.std.proofs.Common.{sym, ◌∙◌, ap, inl, inr, ⊎_elim}
-use mathlib.Core.List.Memᴰ
-use mathlib.Core.List.Memᴰ.{head as here}
-use mathlib.Core.List.Memᴰ.{tail as there}
-use Rattle.algebra.specs.Ring.{CommRing, mul_left_comm}
-use Rattle.algebra.specs.Divisibility.{
-  ◌∣◌,
-  Coprime,
-  pow,
-  pow_one,
-  pow_divides,
-  product,
-  product_nil,
-  product_one,
-  product_cons,
-  divides_mul_right,
-  coprime_sym,
-  coprime_one,
-  coprime_mul,
-  coprime_pow,
-  gauss,
-}
+use Rattle.std.specs.Prelude.{◌≡◌, List, ◌∷◌, map, ◌≢◌, ℕ, ◌≤◌}
+use Rattle.algebra.specs.Ring.{CommRing}
+use Rattle.algebra.specs.Divisibility.{Coprime, pow, product, product_cons, coprime_sym, coprime_pow}
 use Rattle.algebra.specs.PolynomialRing.{Poly, PolyRing, ◌·◌}
-use Rattle.algebra.specs.Fields.{Field}
-use Rattle.lists.specs.Members.{◌∈◌, All, all_cons, all_tail}
-use Rattle.lists.specs.InOrder.{StrictOrder, InOrder, in_order_unique}
-use Rattle.factorisation.specs.Irreducible.{Irreducible, irreducible_prime}
-use Rattle.factorisation.specs.Multiplicity.{Multiplicity, coprime_not_divides, multiplicity_unique}
+use Rattle.lists.specs.Members.{All}
+use Rattle.lists.specs.InOrder.{InOrder}
+use Rattle.factorisation.specs.Irreducible.{Irreducible}
 
 module _ {R : Type 0} {𝓡 : CommRing R} where
   -- "G to the m"

@@ -20,7 +20,7 @@ use Rattle.algebra.specs.PolynomialRing.{
   constant_unit,
 }
 use Rattle.algebra.specs.Monomials.{x^, coef_power_low}
-use Rattle.algebra.specs.Degree.{Below, Monic, below_up, below_down, below_constant_mul, monic_pow_x}
+use Rattle.algebra.specs.Degree.{Below, below_up, below_down, below_constant_mul, monic_pow_x}
 use Rattle.algebra.specs.Division.{below_top}
 use Rattle.algebra.specs.Fields.{Field}
 use Rattle.frobenius.specs.LinearMaps.{apply, apply_multiple, apply_sub_multiple, apply_monomial}

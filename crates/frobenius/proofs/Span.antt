@@ -1,29 +1,13 @@
 -- Proves that a y in the span of rows in slots that is 𝟘 at the degree of every row from k on has terms below k only. Assumes nothing.
-use Rattle.std.specs.Prelude.{◌≡◌, ◌⊎◌, ◌≢◌}
-use Rattle.std.proofs.Math.Path.{refl, ap, ap₂}
-use Rattle.std.proofs.Common.{sym, ◌∙◌, inl, inr, ⊎_elim, eq-or-lt_of_le}
+use Rattle.std.specs.Prelude.{◌≡◌, ◌⊎◌}
+use Rattle.std.proofs.Math.Path.{ap}
+use Rattle.std.proofs.Common.{sym, ◌∙◌, inl, inr, eq-or-lt_of_le}
 use Prim.Native.Nat.{ℕ, zero, suc, ◌≤◌, ◌<◌}
-use Rattle.std.proofs.Math.Decide.{ℕ_discrete}
 use native.Mathlib.Omega.{arith}
-use Rattle.algebra.specs.Ring.{CommRing, ring, mul_zero, neg_zero, neg_neg}
-use Rattle.algebra.specs.Identities.{con, ◌⊕◌, ◌⊖◌, ◌⊗◌, ◌≈◌, solve}
-use Rattle.algebra.specs.PolynomialRing.{
-  Poly,
-  PolyRing,
-  ◌+ᴿ◌,
-  ◌·◌,
-  -ᴿ◌,
-  𝟎,
-  constant,
-  coef_add,
-  coef_neg,
-  coef_constant_mul,
-  constant_zero,
-  constant_one,
-  constant_add,
-  constant_mul,
-}
-use Rattle.algebra.specs.Degree.{Below, Monic, below_𝟎, below_up, below_add, below_constant_mul}
+use Rattle.algebra.specs.Ring.{CommRing, ring, neg_zero, neg_neg}
+use Rattle.algebra.specs.Identities.{◌⊕◌, ◌⊖◌, ◌≈◌, solve}
+use Rattle.algebra.specs.PolynomialRing.{Poly, PolyRing, ◌·◌, constant}
+use Rattle.algebra.specs.Degree.{Below, below_𝟎, below_up, below_add, below_constant_mul}
 use Rattle.frobenius.specs.Span.{less, coef_less, less_𝟎, less_𝟘, Span, Slot, Clear, row_below}
 
 module _ {R : Type 0} {𝓡 : CommRing R} where

@@ -1,11 +1,9 @@
 -- The quotient of a polynomial over ℤ/p by its gcd with its derivative.
 -- Proves that it has no square factor: where G divides a exactly k times, G^(k−1) divides the derivative, and so the gcd. Assumes nothing.
 use Rattle.std.specs.Prelude.{◌≡◌, ℕ, suc, ◌≤◌, ◌-◌}
-use Rattle.std.proofs.Common.{sym, ◌∙◌, ap, ap₂, arith}
-use Rattle.algebra.specs.Identities.{◌⊕◌, ◌⊗◌, ◌≈◌, solve}
+use Rattle.std.proofs.Common.{sym, ◌∙◌, ap, arith}
 use Rattle.algebra.specs.Divisibility.{◌∣◌, pow, pow_zero, pow_suc, one_divides, divides_mul_both}
-use Rattle.algebra.specs.Residues.{residue}
-use Rattle.algebra.specs.PolynomialRing.{◌+ᴿ◌, ◌·◌, constant}
+use Rattle.algebra.specs.PolynomialRing.{◌·◌}
 use Rattle.algebra.specs.Degree.{Monic, monic_cancel}
 use Rattle.algebra.specs.Fields.{Prime, residue_field, residue_discrete}
 use Rattle.algebra.specs.CoefficientLists.{ℤ[x]/, 𝓩[x]/}
@@ -13,7 +11,7 @@ use Rattle.factorisation.specs.MonicDivisors.{monic_nonzero}
 use Rattle.factorisation.specs.Irreducible.{Irreducible}
 use Rattle.factorisation.specs.Multiplicity.{Multiplicity, multiplicity, power_divides, power_bound}
 use Rattle.factorisation.specs.SquareFree.{SquareFree}
-use Rattle.frobenius.specs.Derivatives.{derivative, derivative_mul, derivative_pow}
+use Rattle.frobenius.specs.Derivatives.{derivative}
 use Rattle.frobenius.specs.SquareFreeQuotients.{power_divides_derivative}
 
 module _ {p : ℕ} where

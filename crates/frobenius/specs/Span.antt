@@ -2,11 +2,11 @@
 -- Proves that spans are closed under sums and multiples, and that what a free slot takes in does not make the span smaller. Assumes nothing.
 use Rattle.std.specs.Prelude.{◌≡◌, ◌⊎◌, ◌≢◌}
 use Rattle.std.proofs.Math.Path.{refl, ap, ap₂}
-use Rattle.std.proofs.Common.{sym, ◌∙◌, inl, inr, ⊎_elim, eq-or-lt_of_le}
+use Rattle.std.proofs.Common.{◌∙◌, inl, inr, ⊎_elim, eq-or-lt_of_le}
 use Prim.Native.Nat.{ℕ, zero, suc, ◌≤◌, ◌<◌}
 use Rattle.std.proofs.Math.Decide.{ℕ_discrete}
 use native.Mathlib.Omega.{arith}
-use Rattle.algebra.specs.Ring.{CommRing, ring, mul_zero, neg_zero, neg_neg}
+use Rattle.algebra.specs.Ring.{CommRing, mul_zero}
 use Rattle.algebra.specs.Identities.{con, ◌⊕◌, ◌⊖◌, ◌⊗◌, ◌≈◌, solve}
 use Rattle.algebra.specs.PolynomialRing.{
   Poly,
@@ -24,7 +24,7 @@ use Rattle.algebra.specs.PolynomialRing.{
   constant_add,
   constant_mul,
 }
-use Rattle.algebra.specs.Degree.{Below, Monic, below_𝟎, below_up, below_add, below_constant_mul}
+use Rattle.algebra.specs.Degree.{Below, Monic, below_𝟎}
 
 module _ {R : Type 0} {𝓡 : CommRing R} where
   infixl 60 ◌∔◌

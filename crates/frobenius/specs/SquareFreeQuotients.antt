@@ -1,18 +1,12 @@
 -- The derivative of a polynomial over ℤ/p that a power divides.
 -- Proves that G^j divides the derivative of w·G^(j+1). Assumes nothing.
-use Rattle.std.specs.Prelude.{◌≡◌, ℕ, suc, ◌≤◌, ◌-◌}
-use Rattle.std.proofs.Common.{sym, ◌∙◌, ap, ap₂, arith}
+use Rattle.std.specs.Prelude.{ℕ, suc}
+use Rattle.std.proofs.Common.{sym, ◌∙◌, ap₂}
 use Rattle.algebra.specs.Identities.{◌⊕◌, ◌⊗◌, ◌≈◌, solve}
-use Rattle.algebra.specs.Divisibility.{◌∣◌, pow, pow_zero, pow_suc, one_divides, divides_mul_both}
+use Rattle.algebra.specs.Divisibility.{◌∣◌, pow, pow_suc}
 use Rattle.algebra.specs.Residues.{residue}
 use Rattle.algebra.specs.PolynomialRing.{◌+ᴿ◌, ◌·◌, constant}
-use Rattle.algebra.specs.Degree.{Monic, monic_cancel}
-use Rattle.algebra.specs.Fields.{Prime, residue_field, residue_discrete}
 use Rattle.algebra.specs.CoefficientLists.{ℤ[x]/, 𝓩[x]/}
-use Rattle.factorisation.specs.MonicDivisors.{monic_nonzero}
-use Rattle.factorisation.specs.Irreducible.{Irreducible}
-use Rattle.factorisation.specs.Multiplicity.{Multiplicity, multiplicity, power_divides, power_bound}
-use Rattle.factorisation.specs.SquareFree.{SquareFree}
 use Rattle.frobenius.specs.Derivatives.{derivative, derivative_mul, derivative_pow}
 
 module _ {p : ℕ} where

@@ -1,6 +1,5 @@
 -- `inverses::inverse` meets its contract.
 -- Assumes nothing.
-use native.Mathlib.Nat.{pos_of_ne-zero}
 use native.Mathlib.Omega.{arith}
 use borrow.Author.Rules.{rules}
 use Rattle.specification.specs.Limits.{primes}
