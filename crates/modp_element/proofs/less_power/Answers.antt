@@ -1,7 +1,6 @@
 -- `modp_element::less_power` meets its contract.
 -- Assumes nothing.
 use native.Mathlib.Omega.{arith}
-use borrow.Author.Rules.{rules}
 use Rattle.modp_element.specs.Images.{less_power}
 use Rattle.modp_element.proofs.less_power.Goals as goal
 
