@@ -1,6 +1,5 @@
 -- Lists of non-units with the product of given parts P = g^m + π·h, whose bars are pairwise coprime; s is claimed of each part.
--- Proves: no such list has more than Σ s members (B); in a list of Σ s members, each is in exactly one class and the class of a part
--- has exactly s members (D), and no member is a product of two non-units (C). Assumes nothing.
+-- Proves that a part's bar is coprime to what the other parts multiply to, its `Cofactor`; what is claimed of the lists is in proofs/. Assumes nothing.
 use Rattle.std.specs.Prelude.{◌≡◌, ◌⊎◌, List, [], ◌∷◌, map, length, ℕ, ◌≤◌}
 use Rattle.std.proofs.Common.{sym, ◌∙◌, ap, inl, inr, arith}
 use mathlib.Core.List.Memᴰ
