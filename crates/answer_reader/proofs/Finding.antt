@@ -4,20 +4,18 @@
 use mathlib.Core.Path.{◌≡◌, refl, sym, ◌∙◌, ap}
 use mathlib.Core.Bool.{true, false}
 use mathlib.Core.List.{List, [], ◌∷◌, ◌++◌, append_assoc}
-use mathlib.Core.Logic.{◌≢◌, ⊎_elim}
+use mathlib.Core.Logic.{◌≢◌}
 use Prim.Native.Nat.{ℕ, ◌+◌, ◌≤◌, ◌<◌}
 use native.Mathlib.Nat.{le_refl}
-use native.Mathlib.Omega.{arith}
 use lib.ListN.{length, get_or}
-use lib.Dec.{ltb}
-use borrow.Author.Tests.{eq-eqb, ne_eqb, lt-ltb, le-ltb}
+use Rattle.std.specs.Prelude.{Option, Some, None, is_some}
+use borrow.Author.Tests.{eq-eqb, ne_eqb}
 use Rattle.specification.specs.Lists.{first, any_passes}
 use Rattle.specification.specs.Commands.{Command, command, operand_count, commands, first_with, has}
-use Rattle.algebra.specs.Numbers.{lt_or_le}
 use Rattle.lists.specs.Members.{all_cons, all_append}
 use Rattle.layouts.specs.CommandsReadBack.{Without, PassesOver, first_with_past, has_past}
 use Rattle.layouts.specs.CommandPlaces.{commands_from, command_at, place_after, commands_step, commands_end}
-use Rattle.answer_reader.specs.FoundInBytes.{FoundAt}
+use Rattle.answer_reader.specs.FoundInBytes.{place_or_end, FoundAt}
 
 -- the first command has the code
 first_here : (code : ℕ) (c : Command) (cs : List Command) → c.code ≡ code → first_with code (c ∷ cs) ≡ c
@@ -44,47 +42,48 @@ module _ (bytes : List ℕ) (code : ℕ) where
       others = all_append w.others (all_cons (ne_eqb (get_or bytes at 0) code h) (λ c i. elim i [ ]));
     })
 
-    pub place_found : at < length bytes → get_or bytes at 0 ≡ code → FoundAt bytes code at
-    place_found l e = record { before = w.before; cut = w.cut; others = w.others; within = omega arith; here = λ u. e }
+    pub place_found : at < length bytes → get_or bytes at 0 ≡ code → FoundAt bytes code (Some at)
+    place_found l e = record { before = w.before; cut = w.cut; others = w.others; here = (l, e) }
 
-    pub code_missing : length bytes ≤ at → FoundAt bytes code (length bytes)
+    pub code_missing : length bytes ≤ at → FoundAt bytes code None
     code_missing l = record {
       before = w.before;
       cut = w.cut ∙ ap (λ (cs : List Command). w.before ++ cs) (commands_end bytes at l ∙ sym (commands_end bytes (length bytes) (le_refl (length bytes))));
       others = w.others;
-      within = le_refl (length bytes);
-      here = λ u. absurd (omega arith);
+      here = tt;
     }
 
 -- ---- what was found
 
-module _ {bytes : List ℕ} {code at : ℕ} (h : FoundAt bytes code at) where
+module _ {bytes : List ℕ} {code : ℕ} {r : Option ℕ} (h : FoundAt bytes code r) {A : Type 0} (F : List Command → A) (past : PassesOver code F) where
   -- what is read off commands with the code is read from its place on
-  module _ {A : Type 0} (F : List Command → A) (past : PassesOver code F) where
-    from_place : F (commands bytes) ≡ F (commands_from bytes at)
-    from_place = ap F h.cut ∙ past h.before (commands_from bytes at) h.others
+  from_place : F (commands bytes) ≡ F (commands_from bytes (place_or_end bytes r))
+  from_place = ap F h.cut ∙ past h.before (commands_from bytes (place_or_end bytes r)) h.others
 
-    from_command : at < length bytes → F (commands bytes) ≡ F (command_at bytes at ∷ commands_from bytes (place_after bytes at))
-    from_command l = from_place ∙ ap F (commands_step bytes at l)
+module _ {bytes : List ℕ} {code at : ℕ} (h : FoundAt bytes code (Some at)) where
+  from_command : {A : Type 0} (F : List Command → A) → PassesOver code F
+      → F (commands bytes) ≡ F (command_at bytes at ∷ commands_from bytes (place_after bytes at))
+  from_command F past = from_place h F past ∙ ap F (commands_step bytes at h.here.0)
 
-    from_end : length bytes ≤ at → F (commands bytes) ≡ F []
-    from_end l = from_place ∙ ap F (commands_end bytes at l)
+  pub first_found : first_with code (commands bytes) ≡ command_at bytes at
+  first_found =
+      from_command (first_with code) (first_with_past code)
+      ∙ first_here code (command_at bytes at) (commands_from bytes (place_after bytes at)) h.here.1
 
-  pub first_found : at < length bytes → first_with code (commands bytes) ≡ command_at bytes at
-  first_found l =
-      from_command (first_with code) (first_with_past code) l
-      ∙ first_here code (command_at bytes at) (commands_from bytes (place_after bytes at)) (h.here l)
+  has_found : has code (commands bytes) ≡ true
+  has_found = from_command (has code) (has_past code) ∙ (unfold has any_passes in rw (eq-eqb (get_or bytes at 0) code h.here.1) refl)
 
-  pub first_missing : length bytes ≤ at → first_with code (commands bytes) ≡ command code []
-  first_missing l = from_end (first_with code) (first_with_past code) l ∙ (unfold first_with first in refl)
+module _ {bytes : List ℕ} {code : ℕ} (h : FoundAt bytes code None) where
+  from_end : {A : Type 0} (F : List Command → A) → PassesOver code F → F (commands bytes) ≡ F []
+  from_end F past = from_place h F past ∙ ap F (commands_end bytes (length bytes) (le_refl (length bytes)))
 
-  has_found : at < length bytes → has code (commands bytes) ≡ true
-  has_found l = from_command (has code) (has_past code) l ∙ (unfold has any_passes in rw (eq-eqb (get_or bytes at 0) code (h.here l)) refl)
+  pub first_missing : first_with code (commands bytes) ≡ command code []
+  first_missing = from_end (first_with code) (first_with_past code) ∙ (unfold first_with first in refl)
 
-  has_missing : length bytes ≤ at → has code (commands bytes) ≡ false
-  has_missing l = from_end (has code) (has_past code) l ∙ (unfold has any_passes in refl)
+  has_missing : has code (commands bytes) ≡ false
+  has_missing = from_end (has code) (has_past code) ∙ (unfold has any_passes in refl)
 
-  -- it is there if its place is
-  pub has_by_place : ltb at (length bytes) ≡ has code (commands bytes)
-  has_by_place =
-      ⊎_elim (λ l. lt-ltb at (length bytes) l ∙ sym (has_found l)) (λ l. le-ltb at (length bytes) l ∙ sym (has_missing l)) (lt_or_le at (length bytes))
+-- it is there if its place is found
+pub has_by_place : (bytes : List ℕ) (code : ℕ) (r : Option ℕ) → FoundAt bytes code r → is_some r ≡ has code (commands bytes)
+has_by_place bytes code (Some at) h = sym (has_found h)
+has_by_place bytes code None h = sym (has_missing h)

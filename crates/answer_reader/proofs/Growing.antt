@@ -1,7 +1,7 @@
 -- The loop that multiplies a by b again and again: `Growing`, what the array holds after i turns.
 -- Proves how the loop begins and goes on, and that it gives up only where the product is of a degree past the limit. Assumes nothing.
 use mathlib.Core.Path.{◌≡◌, refl, sym, ◌∙◌, ap, subst}
-use mathlib.Core.Bool.{true, false, false≢true}
+use Rattle.std.specs.Prelude.{Some, None}
 use mathlib.Core.List.{List}
 use Prim.Native.Nat.{ℕ, suc, ◌≤◌, ◌<◌, ◌+◌, ◌*◌}
 use native.Mathlib.Nat.{mul-le-mul_left}
@@ -47,17 +47,14 @@ module _ (n : ℕ) (a : List ℕ) (d : ℕ) (b : List ℕ) (e : ℕ) where
     }
 
     -- there is no room for b once more
-    pub grown_full : {t : ℕ} → i < t → degree_limit < degree + e → GrownBy n a d b e t (record { found = false; degree = degree; coefs = coefs })
+    pub grown_full : {t : ℕ} → i < t → degree_limit < degree + e → GrownBy n a d b e t None
     grown_full {t} l full = record {
-      sound = λ z. absurd (false≢true z);
+      sound = tt;
       exact = λ room. absurd (omega (arith, w.degree_is, mul-le-mul_left e (let s : suc i ≤ t = omega arith in s)));
     }
 
-    pub grown_done : {t : ℕ} → i ≤ t → t ≤ i → GrownBy n a d b e t (record { found = true; degree = degree; coefs = coefs })
-    grown_done {t} l u = record {
-      sound = λ z. (w.array, rw s w.degree_is, rw s w.is);
-      exact = λ room. refl;
-    }
+    pub grown_done : {t : ℕ} → i ≤ t → t ≤ i → GrownBy n a d b e t (Some (record { degree = degree; coefs = coefs }))
+    grown_done {t} l u = record { sound = (w.array, rw s w.degree_is, rw s w.is); exact = λ room. refl }
       where
         s : t ≡ i
         s = omega arith

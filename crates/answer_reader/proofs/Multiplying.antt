@@ -2,7 +2,7 @@
 -- Proves that a command multiplies by what it lists, how the loop begins and goes on, and that it ends with the product of the whole list.
 -- Assumes nothing.
 use mathlib.Core.Path.{◌≡◌, refl, sym, ◌∙◌, ap, ap₂}
-use mathlib.Core.Bool.{true, false}
+use Rattle.std.specs.Prelude.{Option, Some, None}
 use mathlib.Core.List.{List, [], ◌∷◌, ◌++◌, map}
 use mathlib.Core.Logic.{◌≢◌}
 use Prim.Native.Nat.{ℕ, zero, suc, ◌≤◌, ◌<◌, ◌+◌, ◌*◌}
@@ -27,7 +27,6 @@ use Rattle.answer_reader.specs.declared.Factor.{Factor}
 use Rattle.answer_reader.specs.declared.Grown.{Grown}
 use Rattle.layouts.specs.CommandPlaces.{commands_from, command_at, place_after, commands_step, commands_end}
 use Rattle.answer_reader.specs.Fits.{Fits}
-use Rattle.lists.specs.Tests.{contrary}
 use Rattle.answer_reader.specs.FoundInBytes.{factors_from, product_of, FactorOf, GrownBy, MultipliedAt, ProductOf}
 
 abbrev 𝓐 : (n : ℕ) → CommRing (ℤ[x]/ n)
@@ -60,9 +59,9 @@ module _ (bytes : List ℕ) (p : ℕ) where
 
     -- no other command lists anything
     pub multiplied_other : at < length bytes → get_or bytes at 0 ≢ 0x12 → MonicArray n d a
-        → MultipliedAt bytes at p a d (record { found = true; degree = d; coefs = a })
+        → MultipliedAt bytes at p a d (Some (record { degree = d; coefs = a }))
     multiplied_other l h m = record {
-      sound = λ y. (m, ap (λ (L : List Poly). d + degree_sum L) same, ap (λ (L : List Poly). poly n a · product_of n L) same);
+      sound = (m, ap (λ (L : List Poly). d + degree_sum L) same, ap (λ (L : List Poly). poly n a · product_of n L) same);
       exact = λ f room. refl;
     }
       where
@@ -72,28 +71,28 @@ module _ (bytes : List ℕ) (p : ℕ) where
             ∙ factors_past (command_at bytes at ∷ []) (commands_from bytes (place_after bytes at))
             (all_cons (ne_eqb (get_or bytes at 0) 0x12 h) (λ c i. elim i [ ])))
 
-    module _ {f : Factor} (h : FactorOf bytes at p f) where
-      pub factor_missing : f.found ≡ false → MultipliedAt bytes at p a d (record { found = false; degree = d; coefs = a })
-      factor_missing z = record { sound = contrary refl; exact = λ fit room. contrary z (h.exact fit) }
+    pub factor_missing : FactorOf bytes at p None → MultipliedAt bytes at p a d None
+    factor_missing h = record { sound = tt; exact = λ fit room. h.exact fit }
 
-      pub multiplied_by : {modulus : ℕ} {r : Grown} → f.found ≡ true → modulus ≡ n → GrownBy modulus a d f.coefs f.degree f.times r
-          → MultipliedAt bytes at p a d r
-      multiplied_by {modulus} {r} z e g = record {
-        sound = λ y.
-            let (array, degree_is_lem, is) = (rw e at g).sound y in
-            let multiplies = ap (λ c. c · product_of n after) is ∙ (𝓐 n).*_assoc _ _ _ ∙ ap (λ c. poly n a · c) (sym value) in
-            (array, omega (arith, degree_is_lem, weight), multiplies);
-        exact = λ fit room. g.exact (omega (arith, weight));
-      }
-        where
-          monic : MonicArray n f.degree f.coefs
-          monic = (h.sound z).0
+    module _ {f : Factor} (h : FactorOf bytes at p (Some f)) where
+      monic : MonicArray n f.degree f.coefs
+      monic = h.sound.0
 
-          weight : degree_sum (factors_from bytes at) ≡ f.degree * f.times + degree_sum after
-          weight = ap degree_sum (h.sound z).1 ∙ copies_degree monic after f.times
+      weight : degree_sum (factors_from bytes at) ≡ f.degree * f.times + degree_sum after
+      weight = ap degree_sum h.sound.1 ∙ copies_degree monic after f.times
 
-          value : product_of n (factors_from bytes at) ≡ pow (𝓐 n) (poly n f.coefs) f.times · product_of n after
-          value = ap (product_of n) (h.sound z).1 ∙ copies_product monic after f.times
+      value : product_of n (factors_from bytes at) ≡ pow (𝓐 n) (poly n f.coefs) f.times · product_of n after
+      value = ap (product_of n) h.sound.1 ∙ copies_product monic after f.times
+
+      grown_sound : (r : Option Grown) → GrownBy n a d f.coefs f.degree f.times r → MultipliedAt bytes at p a d r
+      grown_sound None g = record { sound = tt; exact = λ fit room. g.exact (omega (arith, weight)) }
+      grown_sound (Some r) g =
+          let (array, degree_is_lem, is) = g.sound in
+          let multiplies = ap (λ c. c · product_of n after) is ∙ (𝓐 n).*_assoc _ _ _ ∙ ap (λ c. poly n a · c) (sym value) in
+          record { sound = (array, omega (arith, degree_is_lem, weight), multiplies); exact = λ fit room. refl }
+
+      pub multiplied_by : {modulus : ℕ} {r : Option Grown} → modulus ≡ n → GrownBy modulus a d f.coefs f.degree f.times r → MultipliedAt bytes at p a d r
+      multiplied_by {modulus} {r} e g = grown_sound r (rw e at g)
 
   -- ---- the loop
 
@@ -115,8 +114,8 @@ module _ (bytes : List ℕ) (p : ℕ) where
   }
 
   module _ {coefs : List ℕ} {degree at : ℕ} (w : Multiplying coefs degree at) where
-    pub product_found : length bytes ≤ at → ProductOf bytes p (record { found = true; degree = degree; coefs = coefs })
-    product_found l = record { sound = λ y. (w.array, is); exact = λ f room. refl }
+    pub product_found : length bytes ≤ at → ProductOf bytes p (Some (record { degree = degree; coefs = coefs }))
+    product_found l = record { sound = (w.array, is); exact = λ f room. refl }
       where
         is : poly n coefs ≡ product_of n (factor_list bytes)
         is =
@@ -125,15 +124,13 @@ module _ (bytes : List ℕ) (p : ℕ) where
             (sym (ap (λ cs. product_of n (factors_in cs)) (commands_end bytes at l) ∙ (unfold factors_in in product_nil (𝓐 n))))
             ∙ w.multiplies
 
-    module _ (l : at < length bytes) {r : Grown} (h : MultipliedAt bytes at p coefs degree r) where
-      pub given_up : r.found ≡ false → ProductOf bytes p r
-      given_up z = record {
-        sound = contrary z;
-        exact = λ f room. contrary z (h.exact (w.left f) (omega (arith, w.degrees)));
-      }
+    module _ (l : at < length bytes) where
+      pub given_up : MultipliedAt bytes at p coefs degree None → ProductOf bytes p None
+      given_up h = record { sound = tt; exact = λ f room. h.exact (w.left f) (omega (arith, w.degrees)) }
 
-      pub multiplying_more : r.found ≡ true → {k : ℕ} → k ≡ operand_count (get_or bytes at 0) → Multiplying r.coefs r.degree (at + (1 + k))
-      multiplying_more y {k} e = let (m, deg, is) = h.sound y in rw e (record {
+      pub multiplying_more : {r : Grown} → MultipliedAt bytes at p coefs degree (Some r) → {k : ℕ} → k ≡ operand_count (get_or bytes at 0)
+          → Multiplying r.coefs r.degree (at + (1 + k))
+      multiplying_more h {k} e = let (m, deg, is) = h.sound in rw e (record {
         array = m;
         degrees = deg ∙ w.degrees;
         multiplies = is ∙ w.multiplies;

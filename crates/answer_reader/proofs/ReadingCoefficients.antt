@@ -6,6 +6,7 @@ use mathlib.Core.List.{List}
 use mathlib.Core.Logic.{◌⊎◌, inl, inr, ◌≢◌, ⊎_elim}
 use Prim.Native.Nat.{ℕ, ◌+◌, ◌-◌, ◌*◌, ◌≤◌, ◌<◌}
 use native.Mathlib.Omega.{arith}
+use Rattle.std.specs.Prelude.{Some, None}
 use lib.Dec.{eqb, lit<, eqb→eq}
 use lib.ListN.{length, get_or, set, drop, length-drop, get_or-eq_default}
 use lib.Seq.{get_or-drop, get_or-set_other}
@@ -33,7 +34,7 @@ use Rattle.layouts.specs.CommandPlaces.{
   operand_at,
 }
 use Rattle.answer_reader.specs.Fits.{CoefficientFits, CoefficientsFit}
-use Rattle.lists.specs.Tests.{contrary, either}
+use Rattle.lists.specs.Tests.{either}
 use Rattle.answer_reader.specs.FoundInBytes.{CoefficientOf, CoefficientsOf}
 
 -- ---- one coefficient
@@ -81,24 +82,23 @@ module _ (bytes : List ℕ) (at : ℕ) (one : is_coefficient (command_at bytes a
           get_or-eq_default (drop 1 (operands_at bytes at)) 0 (omega (arith, length-drop 1 (operands_at bytes at), operands_few bytes at, few e))
 
   module _ {d p : ℕ} where
-    module _ {r : Coefficient} (z : r.found ≡ false) where
-      not_fit : (CoefficientFits d (p ²) (command_at bytes at) → ⊥) → CoefficientOf bytes at d p r
-      not_fit h = record { sound = contrary z; exact = λ f. absurd (h f) }
+    not_fit : (CoefficientFits d (p ²) (command_at bytes at) → ⊥) → CoefficientOf bytes at d p None
+    not_fit h = record { sound = tt; exact = λ f. absurd (h f) }
 
-      pub operands_missing : at < length bytes → length bytes - at ≤ operand_count code → CoefficientOf bytes at d p r
-      operands_missing l u = not_fit (λ f. omega (arith, operands_there bytes at l f.well_formed))
+    pub operands_missing : at < length bytes → length bytes - at ≤ operand_count code → CoefficientOf bytes at d p None
+    operands_missing l u = not_fit (λ f. omega (arith, operands_there bytes at l f.well_formed))
 
-      pub index_high : d ≤ get_or bytes (at + 1) 0 → CoefficientOf bytes at d p r
-      index_high u = not_fit (λ f. omega (arith, f.index, index_is))
+    pub index_high : d ≤ get_or bytes (at + 1) 0 → CoefficientOf bytes at d p None
+    index_high u = not_fit (λ f. omega (arith, f.index, index_is))
 
-      pub value_high : p ² ≤ given_value (command_at bytes at) → CoefficientOf bytes at d p r
-      value_high u = not_fit (λ f. omega (arith, f.value))
+    pub value_high : p ² ≤ given_value (command_at bytes at) → CoefficientOf bytes at d p None
+    value_high u = not_fit (λ f. omega (arith, f.value))
 
     pub coefficient_read : {v : ℕ} → operand_count code < length bytes - at → get_or bytes (at + 1) 0 < d
         → v ≡ given_value (command_at bytes at) → v < p ²
-        → CoefficientOf bytes at d p (record { found = true; index = get_or bytes (at + 1) 0; value = v })
+        → CoefficientOf bytes at d p (Some (record { index = get_or bytes (at + 1) 0; value = v }))
     coefficient_read l i e u = record {
-      sound = λ y. (
+      sound = (
         record {
           well_formed = well_formed_there bytes at (omega arith);
           index = rw index_is i;
@@ -110,8 +110,8 @@ module _ (bytes : List ℕ) (at : ℕ) (one : is_coefficient (command_at bytes a
       exact = λ f. refl;
     }
 
-pub index_below : {bytes : List ℕ} {at d p : ℕ} {r : Coefficient} → CoefficientOf bytes at d p r → r.found ≡ true → r.index < d
-index_below h y = omega (arith, (h.sound y).1, (h.sound y).0.index)
+pub index_below : {bytes : List ℕ} {at d p : ℕ} {r : Coefficient} → CoefficientOf bytes at d p (Some r) → r.index < d
+index_below h = omega (arith, h.sound.1, h.sound.0.index)
 
 -- ---- the coefficients
 
@@ -132,33 +132,33 @@ module _ (bytes : List ℕ) (at d p : ℕ) where
   }
 
   module _ {coefs : List ℕ} {next : ℕ} (w : Underway coefs next) where
-    found : NoCoefficient (commands_from bytes next) → CoefficientsOf bytes at d p (record { found = true; coefs = coefs })
+    found : NoCoefficient (commands_from bytes next) → CoefficientsOf bytes at d p (Some coefs)
     found o = record {
-      sound = λ y. (leads_monic w.held w.top, sym (written_none (listed d coefs) (commands_from bytes next) o) ∙ w.is);
+      sound = (leads_monic w.held w.top, sym (written_none (listed d coefs) (commands_from bytes next) o) ∙ w.is);
       exact = λ f. refl;
     }
 
     -- the bytes end, or another command comes
-    pub found_at_end : length bytes ≤ next → CoefficientsOf bytes at d p (record { found = true; coefs = coefs })
+    pub found_at_end : length bytes ≤ next → CoefficientsOf bytes at d p (Some coefs)
     found_at_end l = found (rw (commands_end bytes next l) tt)
 
     module _ (l : next < length bytes) where
-      pub found_before : is_coefficient (command_at bytes next) ≡ false → CoefficientsOf bytes at d p (record { found = true; coefs = coefs })
+      pub found_before : is_coefficient (command_at bytes next) ≡ false → CoefficientsOf bytes at d p (Some coefs)
       found_before h = found (rw (commands_step bytes next l) h)
 
-      module _ (is_one : is_coefficient (command_at bytes next) ≡ true) {r : Coefficient} (h : CoefficientOf bytes next d p r) where
+      module _ (is_one : is_coefficient (command_at bytes next) ≡ true) where
         -- the next command fits, and so do those after it
         next_fits : CoefficientsFit d (p ²) (commands_from bytes at)
             → CoefficientFits d (p ²) (command_at bytes next) × CoefficientsFit d (p ²) (commands_from bytes (place_after bytes next))
         next_fits f = rw (commands_step bytes next l) at (w.left f) is_one
 
-        pub not_read : r.found ≡ false → CoefficientsOf bytes at d p (record { found = false; coefs = coefs })
-        not_read z = record { sound = contrary refl; exact = λ f. contrary z (h.exact (next_fits f).0) }
+        pub not_read : CoefficientOf bytes next d p None → CoefficientsOf bytes at d p None
+        not_read h = record { sound = tt; exact = λ f. h.exact (next_fits f).0 }
 
-        pub underway_more : r.found ≡ true → {k : ℕ} → k ≡ operand_count (get_or bytes next 0)
+        pub underway_more : {r : Coefficient} → CoefficientOf bytes next d p (Some r) → {k : ℕ} → k ≡ operand_count (get_or bytes next 0)
             → Underway (set coefs r.index r.value) (next + (1 + k))
-        underway_more y {k} e = rw e (record {
-          held = held_set w.held (omega (arith, below)) (omega (arith, value, (h.sound y).0.value));
+        underway_more {r} h {k} e = rw e (record {
+          held = held_set w.held (omega (arith, below)) (omega (arith, value, h.sound.0.value));
           top = get_or-set_other coefs i d v 0 (omega (arith, below)) ∙ w.top;
           is = ap (λ (f : Poly). with_coefficients f after) (listed_set d coefs i v (omega (arith, below)) ∙ ap₂ (set (listed d coefs)) index value)
               ∙ sym (written_more (listed d coefs) (command_at bytes next) after is_one)
@@ -176,10 +176,10 @@ module _ (bytes : List ℕ) (at d p : ℕ) where
             after = commands_from bytes (place_after bytes next)
 
             index : i ≡ given_index (command_at bytes next)
-            index = (h.sound y).1
+            index = h.sound.1
 
             value : v ≡ given_value (command_at bytes next)
-            value = (h.sound y).2
+            value = h.sound.2
 
             below : i < d
-            below = index_below h y
+            below = index_below h

@@ -13,14 +13,13 @@ use Rattle.layouts.specs.AnswerLayout.{sheet_parts}
 use Rattle.commands.specs.declared.Sheet.{Sheet}
 use Rattle.commands.specs.AsSheet.{as_sheet}
 use Rattle.modp_factors.specs.declared.Power.{Power}
-use Rattle.modp_factors.specs.declared.Powers.{Powers}
-use Rattle.modp_factors.specs.Factors.{no_power}
+use Rattle.modp_factors.specs.Factors.{Powers, held_powers, no_power}
 use Rattle.part_verdict.specs.AsPart.{as_part}
 use Rattle.parts.specs.declared.PartAndRest.{PartAndRest}
 use Rattle.parts.specs.PowersLeft.{Left, FirstPart}
 use Rattle.parts.specs.PowersFound.{PowersFound}
 use Rattle.parts.proofs.PartsInTurn.{LeftAt, the_parts, past_parts, parts_count, all_left, next_left, part_at, left_next}
-use Rattle.area.specs.Wrote.{Wrote, Room, wrote_as}
+use Rattle.area.specs.Wrote.{Wrote, Room}
 use Rattle.area.proofs.Turns.{Written, EachTurn, each_turn, written_none, written_room, written_more, written_done}
 use Rattle.answer_writer.specs.declared.Totals.{Totals}
 use Rattle.answer_writer.specs.AnswerArrays.{TotalsOf}
@@ -34,56 +33,63 @@ module _ (g : parts.Part → List ℕ) (p : ℕ) (f : List ℕ) (d : ℕ) (found
   pub record Writing (old : List ℕ) (at : ℕ) (new : List ℕ) (after i : ℕ) (t : Totals) (rest : List ℕ) (e : ℕ) : Type 0 where
     pub written : Written (λ i. flat_map g (take i Ps)) (length Ps) old new at after i
     pub counted : Counted (take i Ps) t
-    pub left : i < found.count → LeftAt p f d found i rest e
+    pub left : i < length (held_powers found) → LeftAt p f d found i rest e
 
+-- xs is the vector as a slice
 module _ (g : parts.Part → List ℕ) {s : Sheet} {found : Powers} (F : PowersFound s.prime s.coefs s.degree found) (good : GoodSheet (as_sheet s))
-    {old : List ℕ} {at : ℕ} (room : Room old at (flat_map g (sheet_parts (as_sheet s)))) where
+    {old : List ℕ} {at : ℕ} (room : Room old at (flat_map g (sheet_parts (as_sheet s)))) {xs : List Power} (same : xs ≡ held_powers found) where
   abbrev all : List parts.Part
   all = sheet_parts (as_sheet s)
 
   abbrev past : parts.Part
   past = past_parts s.prime s.coefs s.degree
 
-  turns : EachTurn g past all (length all)
-  turns = each_turn g past all (length all) (omega arith)
+  turns : EachTurn g past all
+  turns = each_turn g past all
 
-  whole : Room old at (flat_map g (take (length all) all))
-  whole = rw (take-length all) room
+  -- there are as many parts as powers
+  many : length xs ≡ length all
+  many = ap length same ∙ sym (parts_count F)
 
   abbrev WritingSheet : List ℕ → ℕ → ℕ → Totals → List ℕ → ℕ → Type 0
   WritingSheet new after i t rest e = Writing g s.prime s.coefs s.degree found old at new after i t rest e
 
   pub writing_none : WritingSheet old at 0 (record { factors = 0; different = 0; free = 0 }) s.coefs s.degree
-  writing_none = record { written = written_none turns whole; counted = counted_none all; left = λ l. all_left F }
+  writing_none = record { written = written_none turns room; counted = counted_none all; left = λ l. all_left F }
 
   module _ {new : List ℕ} {after i : ℕ} {t : Totals} {rest : List ℕ} {e : ℕ} (w : WritingSheet new after i t rest e) where
-    pub writing_done : found.count ≤ i → Wrote old new at (flat_map g all) after × TotalsOf all t
+    pub writing_done : length xs ≤ i → Wrote old new at (flat_map g all) after × TotalsOf all t
     writing_done l = (
-      wrote_as (ap (flat_map g) (take-length all)) (written_done w.written (omega (arith, parts_count F))),
+      written_done turns w.written (omega (arith, many)),
       counted_done (countable (as_sheet s) good) (subst (λ Qs. Counted Qs t) ended w.counted),
     )
       where
         ended : take i all ≡ all
-        ended =
-            ap (λ (k : ℕ). take k all) (let q : i ≡ length all = omega (arith, parts_count F, w.written.within) in q) ∙ take-length all
+        ended = ap (λ (k : ℕ). take k all) (let q : i ≡ length all = omega (arith, many, w.written.within) in q) ∙ take-length all
 
     -- the next power, and the part over it, when it is found
-    module _ (l : i < found.count) where
+    module _ (l : i < length xs) where
       inside : i < length all
-      inside = omega (arith, parts_count F)
+      inside = omega (arith, many)
 
-      pub writing_asks : (L : List Power) × Left s.prime rest e (get_or found.powers i no_power ∷ L)
-      writing_asks = next_left F l (w.left l)
+      held : i < length (held_powers found)
+      held = subst (λ ys. i < length ys) same l
 
-      module _ {r : PartAndRest} (c : FirstPart s.prime rest e (get_or found.powers i no_power) r) where
+      pub writing_asks : (L : List Power) × Left s.prime rest e (get_or xs i no_power ∷ L)
+      writing_asks = rw same (next_left F held (w.left held))
+
+      module _ {r : PartAndRest} (d : FirstPart s.prime rest e (get_or xs i no_power) r) where
+        c : FirstPart s.prime rest e (get_or (held_powers found) i no_power) r
+        c = subst (λ ys. FirstPart s.prime rest e (get_or ys i no_power) r) same d
+
         is : as_part r.part ≡ get_or all i past
-        is = (part_at F l (w.left l) c).is
+        is = (part_at F held (w.left held) c).is
 
         pub writing_fits : DegreesFit r.part
-        writing_fits = degrees_fit (part_at F l (w.left l) c).held
+        writing_fits = degrees_fit (part_at F held (w.left held) c).held
 
         pub writing_room : Room new after (g (as_part r.part))
-        writing_room = subst (λ P. Room new after (g P)) (sym is) (written_room turns w.written inside whole)
+        writing_room = subst (λ P. Room new after (g P)) (sym is) (written_room turns w.written inside room)
 
         pub writing_low : LowWith (as_part r.part) t
         writing_low = subst (λ P. LowWith P t) (sym is) (counted_low past all i inside w.counted (countable (as_sheet s) good))
@@ -96,5 +102,5 @@ module _ (g : parts.Part → List ℕ) {s : Sheet} {found : Powers} (F : PowersF
         writing_more {newer} {last} {u} v a = record {
           written = written_more turns w.written inside (subst (λ P. Wrote new newer after (g P) last) is v);
           counted = counted_more past all i inside w.counted (subst (λ P. With P t u) is a);
-          left = left_next F l (w.left l) c;
+          left = left_next F held (w.left held) c;
         }

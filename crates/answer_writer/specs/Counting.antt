@@ -1,7 +1,7 @@
 -- The three totals of an answer as sums over the parts: each part adds its factors with repeats, its records, its free digits.
 -- Proves what the code's struct of a part adds, what a loop over the parts adds up, and that the sums are the totals of the definitions where no two factors
 -- are the same. Assumes nothing.
-use Rattle.std.specs.Prelude.{◌≡◌, refl, true, false, ℕ, ◌+◌, ◌-◌, ◌*◌, ◌≤◌, ◌<◌, get_or, take}
+use Rattle.std.specs.Prelude.{◌≡◌, refl, ℕ, ◌+◌, ◌-◌, ◌*◌, ◌≤◌, ◌<◌, get_or, take, Some, None}
 use Rattle.std.proofs.Common.{sym, ◌∙◌, arith}
 use Rattle.std.proofs.Math.Path.{ap}
 use mathlib.Core.List.{List, [], ◌∷◌, flat_map}
@@ -16,10 +16,11 @@ use Rattle.lists.specs.Sums.{total as sum, total_more, total_below}
 use Rattle.lists.specs.FlatMaps.{length_flat_map}
 use Rattle.arrays.specs.Listed.{degree_listed}
 use Rattle.items.specs.Factors.{length_members}
+use Rattle.part_verdict.specs.declared.Factor.{Factor}
 use Rattle.part_verdict.specs.declared.Part.{Part}
 use Rattle.part_verdict.specs.AsPart.{as_factor, as_part}
 use Rattle.answer_writer.specs.declared.Totals.{Totals}
-use Rattle.answer_writer.specs.FactorsWritten.{is_split, split_factors, other_factors}
+use Rattle.answer_writer.specs.FactorsWritten.{split_factors, other_factors}
 use Rattle.answer_writer.specs.AnswerArrays.{TotalsOf}
 
 -- ---- what a part adds
@@ -51,25 +52,30 @@ With P t r =
 
 -- the same of the code's struct
 module _ (x : Part) where
-  pub split_counts : is_split x.verdict ≡ true → (part_factors (as_part x) ≡ x.first.times + x.second.times) × (part_records (as_part x) ≡ 2)
+  pub split_counts : {b : Factor} → x.second ≡ Some b → (part_factors (as_part x) ≡ x.first.times + b.times) × (part_records (as_part x) ≡ 2)
   unfolding members sum
-  split_counts e =
-      let q = split_factors x.verdict x.first x.second e in (
-        ap (λ qs. length (flat_map copies qs)) q ∙ length_members (as_factor x.first ∷ as_factor x.second ∷ [])
-            ∙ ap (λ k. x.first.times + k) (add-zero x.second.times),
+  split_counts {b} e =
+      let q = split_factors x.first x.second e in (
+        ap (λ qs. length (flat_map copies qs)) q ∙ length_members (as_factor x.first ∷ as_factor b ∷ [])
+            ∙ ap (λ k. x.first.times + k) (add-zero b.times),
         ap length q,
       )
 
-  pub other_counts : is_split x.verdict ≡ false → (part_factors (as_part x) ≡ x.first.times) × (part_records (as_part x) ≡ 1)
+  pub other_counts : x.second ≡ None → (part_factors (as_part x) ≡ x.first.times) × (part_records (as_part x) ≡ 1)
   unfolding members sum
   other_counts e =
-      let q = other_factors x.verdict x.first x.second e in (
+      let q = other_factors x.first x.second e in (
         ap (λ qs. length (flat_map copies qs)) q ∙ length_members (as_factor x.first ∷ []) ∙ add-zero x.first.times,
         ap length q,
       )
 
   pub free_counts : length x.base ≡ 33 → x.degree ≤ 32 → {s : ℕ} → part_factors (as_part x) ≡ s → x.degree * (s - 1) ≡ part_free (as_part x)
   free_counts long l e = rw (degree_listed x.degree x.base (omega arith), e)
+
+  -- s factors, z of them different
+  pub added : length x.base ≡ 33 → x.degree ≤ 32 → {s z t u v : ℕ} → (part_factors (as_part x) ≡ s) × (part_records (as_part x) ≡ z)
+      → (t ≡ s) × (u ≡ z) × (v ≡ x.degree * (s - 1)) → Adds (as_part x) t u v
+  added long l (factors, records) (e, f, g) = (e ∙ sym factors, f ∙ sym records, g ∙ free_counts long l factors)
 
 -- ---- the totals are sums
 

@@ -14,29 +14,12 @@ pub fn put(out: &mut [u8], at: usize, b: u8) -> usize
     at + 1
 }
 
-// A command of one operand.
-pub fn put_two(out: &mut [u8], at: usize, a: u8, b: u8) -> usize
-    requires { at + 2 ≤ length out.old }
-    ensures { Wrote out.old out.new at (a ∷ b ∷ []) result }
+// Several bytes, such as a command with its operands, or a word.
+pub fn put_all(out: &mut [u8], at: usize, bytes: &[u8]) -> usize
+    requires { at + length bytes.now ≤ length out.old }
+    ensures { Wrote out.old out.new at bytes.now result }
 {
-    let second = put(out, at, a);
-    put(out, second, b)
-}
-
-// A command of two operands.
-pub fn put_three(out: &mut [u8], at: usize, a: u8, b: u8, c: u8) -> usize
-    requires { at + 3 ≤ length out.old }
-    ensures { Wrote out.old out.new at (a ∷ b ∷ c ∷ []) result }
-{
-    let second = put(out, at, a);
-    put_two(out, second, b, c)
-}
-
-// A command of three operands, or two of one.
-pub fn put_four(out: &mut [u8], at: usize, a: u8, b: u8, c: u8, d: u8) -> usize
-    requires { at + 4 ≤ length out.old }
-    ensures { Wrote out.old out.new at (a ∷ b ∷ c ∷ d ∷ []) result }
-{
-    let second = put(out, at, a);
-    put_three(out, second, b, c, d)
+    let after = at + bytes.len();
+    out[at..after].copy_from_slice(bytes);
+    after
 }

@@ -27,14 +27,10 @@ pub fn size_below(a: &[u16], top: usize) -> usize
     requires { (top ≤ 33) × (top ≤ length a.now) × ZeroFrom top a.now }
     ensures { Size a.now result }
 {
-    let mut i = top;
-    while 0 < i {
-        if a[i - 1] != 0 {
-            return i;
-        }
-        i -= 1;
+    match a[..top].iter().rposition(|&c| c != 0) {
+        Some(degree) => degree + 1,
+        None => 0,
     }
-    0
 }
 
 // One more than the degree; 0 for the zero polynomial.
@@ -48,26 +44,12 @@ pub fn size(a: Coefs) -> usize
 pub fn all_below(a: Coefs, n: u16) -> bool
     ensures { result ≡ all_pass (λ c. ltb c n) a }
 {
-    let mut i: usize = 0;
-    while i < 33 {
-        if n <= a[i] {
-            return false;
-        }
-        i += 1;
-    }
-    true
+    a.iter().all(|&c| c < n)
 }
 
 // a and b have the same coefficients.
 pub fn equal(a: Coefs, b: Coefs) -> bool
     ensures { Decides result (a ≡ b) }
 {
-    let mut j: usize = 0;
-    while j < 33 {
-        if a[j] != b[j] {
-            return false;
-        }
-        j += 1;
-    }
-    true
+    a == b
 }

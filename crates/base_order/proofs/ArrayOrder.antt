@@ -4,7 +4,8 @@ use mathlib.Core.Path.{◌≡◌, sym, ◌∙◌, subst}
 use mathlib.Core.Bool.{false, false≢true}
 use mathlib.Core.List.{List, [], ◌∷◌}
 use mathlib.Core.Logic.{◌≢◌, inl, inr}
-use Prim.Native.Nat.{ℕ, zero, suc, ◌≤◌, ◌<◌, ◌-◌}
+use Prim.Native.Nat.{ℕ, zero, suc, ◌≤◌, ◌<◌, ◌+◌}
+use native.Mathlib.Decide.{ℕ_discrete}
 use native.Mathlib.Omega.{arith}
 use borrow.Author.Tests.{ltb-true, ltb-false}
 use lib.Dec.{ltb}
@@ -28,6 +29,14 @@ smaller_at (a ∷ f) (b ∷ g) (suc k) e h agree l =
 abbrev pub Agree : List ℕ → List ℕ → ℕ → ℕ → Type 0
 Agree a b d k = (l : ℕ) → k ≤ l → l ≤ d → get_or a l 0 ≡ get_or b l 0
 
+-- and also at the place below
+pub agree_down : (a b : List ℕ) (d k : ℕ) → Agree a b d (k + 1) → get_or a k 0 ≡ get_or b k 0 → Agree a b d k
+agree_down a b d k agree here l u v = at (ℕ_discrete l k)
+  where
+    at : Dec (l ≡ k) → get_or a l 0 ≡ get_or b l 0
+    at (yes e) = rw e here
+    at (no e) = agree l (omega (arith, e)) v
+
 not_both : (f g : List ℕ) → Before g f → ¬ Before f g
 not_both f g s t = item_3.irreflexive {a = f} (item_3.transitive {a = f} {b = g} {c = f} t s)
 
@@ -41,13 +50,13 @@ before_by_degree a b d e la lb ld le n = record {
 }
 
 -- "Equal degrees: coefficients of G are compared from the highest power down, smaller first"
-before_at : (a b : List ℕ) (d k : ℕ) → length a ≡ 33 → length b ≡ 33 → d < 33 → 0 < k → k ≤ suc d → Agree a b d k
-    → get_or a (k - 1) 0 < get_or b (k - 1) 0 → Before (listed d a) (listed d b)
-before_at a b d k la lb ld pos top agree l = inr (
+before_at : (a b : List ℕ) (d k : ℕ) → length a ≡ 33 → length b ≡ 33 → d < 33 → k ≤ d → Agree a b d (k + 1) → get_or a k 0 < get_or b k 0
+    → Before (listed d a) (listed d b)
+before_at a b d k la lb ld top agree l = inr (
   omega (arith, wa, wb),
-  smaller_at (listed d a) (listed d b) (k - 1) (omega (arith, wa, wb)) (omega (arith, wa))
+  smaller_at (listed d a) (listed d b) k (omega (arith, wa, wb)) (omega (arith, wa))
       (λ j u v. listed_at d a j (omega (arith, wa)) ∙ agree j (omega arith) (omega (arith, wa)) ∙ sym (listed_at d b j (omega (arith, wa))))
-      (omega (arith, l, listed_at d a (k - 1) (omega arith), listed_at d b (k - 1) (omega arith))),
+      (omega (arith, l, listed_at d a k (omega arith), listed_at d b k (omega arith))),
 )
   where
     wa : length (listed d a) ≡ suc d
@@ -56,15 +65,15 @@ before_at a b d k la lb ld pos top agree l = inr (
     wb : length (listed d b) ≡ suc d
     wb = length_listed d b (omega arith)
 
-pub before_by_coefficient : (a b : List ℕ) (d e k : ℕ) → length a ≡ 33 → length b ≡ 33 → d < 33 → d ≡ e → 0 < k → k ≤ suc d → Agree a b d k
-    → get_or a (k - 1) 0 ≢ get_or b (k - 1) 0 → Decides (ltb (get_or a (k - 1) 0) (get_or b (k - 1) 0)) (Before (listed d a) (listed e b))
-before_by_coefficient a b d e k la lb ld q pos top agree n =
-    subst (λ j. Decides (ltb (get_or a (k - 1) 0) (get_or b (k - 1) 0)) (Before (listed d a) (listed j b))) q
+pub before_by_coefficient : (a b : List ℕ) (d e k : ℕ) → length a ≡ 33 → length b ≡ 33 → d < 33 → d ≡ e → k ≤ d → Agree a b d (k + 1)
+    → get_or a k 0 ≢ get_or b k 0 → Decides (ltb (get_or a k 0) (get_or b k 0)) (Before (listed d a) (listed e b))
+before_by_coefficient a b d e k la lb ld q top agree n =
+    subst (λ j. Decides (ltb (get_or a k 0) (get_or b k 0)) (Before (listed d a) (listed j b))) q
     (record {
-      yes = λ t. before_at a b d k la lb ld pos top agree (ltb-true (get_or a (k - 1) 0) (get_or b (k - 1) 0) t);
+      yes = λ t. before_at a b d k la lb ld top agree (ltb-true (get_or a k 0) (get_or b k 0) t);
       no = λ t. not_both (listed d a) (listed d b)
-          (before_at b a d k lb la ld pos top (λ l u v. sym (agree l u v))
-          (omega (arith, ltb-false (get_or a (k - 1) 0) (get_or b (k - 1) 0) t, n)));
+          (before_at b a d k lb la ld top (λ l u v. sym (agree l u v))
+          (omega (arith, ltb-false (get_or a k 0) (get_or b k 0) t, n)));
     })
 
 -- the same polynomial

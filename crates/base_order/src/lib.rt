@@ -17,14 +17,10 @@ pub fn before(a: Coefs, d: usize, b: Coefs, e: usize) -> bool
     if d != e {
         return d < e;
     }
-    let mut k = d + 1;
-    while 0 < k {
-        let x = a[k - 1];
-        let y = b[k - 1];
-        if x != y {
-            return x < y;
+    for k in (0..=d).rev() {
+        if a[k] != b[k] {
+            return a[k] < b[k];
         }
-        k -= 1;
     }
     false
 }

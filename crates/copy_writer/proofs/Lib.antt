@@ -1,1 +1,2 @@
 mod Collecting
+mod Placing

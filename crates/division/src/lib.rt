@@ -9,7 +9,7 @@ ghost use Rattle.division.specs.DivisionLoop.{DividedBy};
 
 use arrays::Coefs;
 use modular::add_by;
-use residues::reciprocal;
+use residues::Modulus;
 
 #[derive(Clone, Copy)]
 pub struct Divided {
@@ -24,17 +24,14 @@ pub fn divide_in_place(a: &mut [u16], q: &mut [u16], s: usize, b: &[u16], d: usi
     ensures { DividedBy n a.old b.now d q.new a.new }
 {
     let terms = d + 1;
-    let w = reciprocal(n);
-    let mut i = s;
-    while d < i {
-        let top = i - 1;
+    let modulus = Modulus::new(n);
+    for top in (d..s).rev() {
         let k = top - d;
         let c = a[top];
         q[k] = c;
         if c != 0 {
-            add_by(&mut a[k..], n - c, b, terms, n, w);
+            add_by(&mut a[k..], n - c, b, terms, modulus);
         }
-        i = top;
     }
 }
 
@@ -43,11 +40,11 @@ pub fn divide(a: Coefs, s: usize, b: Coefs, d: usize, n: u16) -> Divided
     requires { Reduced n 33 a × Reduced n 33 b × (s ≤ 33) × (d < 33) × Below s (poly n a) × Monic d (poly n b) }
     ensures { DividedBy n a b d result.quotient result.remainder }
 {
-    let mut q = [0u16; 33];
-    let mut w = a;
-    divide_in_place(&mut w, &mut q, s, &b, d, n);
+    let mut quotient = [0u16; 33];
+    let mut remainder = a;
+    divide_in_place(&mut remainder, &mut quotient, s, &b, d, n);
     Divided {
-        quotient: q,
-        remainder: w,
+        quotient,
+        remainder,
     }
 }

@@ -46,12 +46,12 @@ fn entry_at(row: usize, a: u8) -> u8
 pub fn inverse(prime: u8, a: u8) -> u8
     ensures { Answer prime a result }
 {
-    let row = primes::place(prime);
-    if 54 <= row {
+    let Some(row) = primes::place(prime) else {
         return 0;
+    };
+    if (1..prime).contains(&a) {
+        entry_at(row, a)
+    } else {
+        0
     }
-    if a == 0 {
-        return 0;
-    }
-    if a < prime { entry_at(row, a) } else { 0 }
 }

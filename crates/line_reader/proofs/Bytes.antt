@@ -1,10 +1,9 @@
 -- Bytes of a line as the code looks at them: signs, blanks and digits.
 -- Proves where a sign stands, that blanks end at one place, what is between two signs, and how a number grows by a digit. Assumes nothing.
 use mathlib.Core.Path.{◌≡◌, sym, ap, ◌∙◌}
-use mathlib.Core.Bool.{Bool, true, false, and-false}
-use mathlib.Core.Logic.{⊎_elim}
+use mathlib.Core.Bool.{false, and-false}
 use mathlib.Core.List.{List}
-use Prim.Native.Nat.{ℕ, suc, ◌+◌, ◌*◌, ◌-◌, ◌<◌, ◌≤◌}
+use Prim.Native.Nat.{ℕ, suc, ◌+◌, ◌*◌, ◌<◌, ◌≤◌}
 use native.Mathlib.Decide.{dec_lt}
 use native.Mathlib.Numerals.{add-one}
 use native.Mathlib.Omega.{arith}
@@ -14,10 +13,11 @@ use lib.ListN.{length, get_or, get_or-eq_default}
 use Rattle.specification.specs.Grammar.{At, Blanks, Between, first_digit, next_digit}
 use Rattle.grammar.proofs.Standing as blanks
 use Rattle.grammar.specs.Machine.{is_digit}
+use Rattle.line_values.specs.declared.Sign.{Sign}
+use Rattle.line_values.specs.declared.Sign.TheVariants.{Plus, Minus}
 use Rattle.line_values.specs.Worth.{held}
 use Rattle.line_values.specs.HeldNumbers.{held_small, held_bound, held_next}
-use Rattle.line_reader.specs.declared.Digits.TheVariants.{Read, Missing}
-use Rattle.line_reader.specs.LineContracts.{ByteAt, DigitOf, Skipped, Counted, DigitsRead, IsSum}
+use Rattle.line_reader.specs.LineContracts.{ByteAt, Skipped, Counted, sign_byte}
 
 -- ---- signs
 
@@ -32,8 +32,9 @@ at_byte {s} {k} b h e = at (dec_lt k (length s))
 pub sign_at : {s : List ℕ} {k r : ℕ} (b : ℕ) → 0 < b → ByteAt s k r → r ≡ b → At s k b
 sign_at b h w e = at_byte b h (sym w.is ∙ e)
 
-pub sum_inside : {s : List ℕ} {k b : ℕ} {r : Bool} → ByteAt s k b → IsSum b r → r ≡ true → k < length s
-sum_inside w h e = ⊎_elim (λ q. (sign_at 43 (omega arith) w q).inside) (λ q. (sign_at 45 (omega arith) w q).inside) (h.holds e)
+pub sum_at : {s : List ℕ} {k b : ℕ} (sign : Sign) → ByteAt s k b → b ≡ sign_byte sign → At s k (sign_byte sign)
+sum_at Plus w e = sign_at 43 (omega arith) w e
+sum_at Minus w e = sign_at 45 (omega arith) w e
 
 -- ---- blanks
 
@@ -66,26 +67,13 @@ between {sign = sign} w a v = record { place = sign; before = w.blanks; here = a
 
 -- ---- digits
 
-low_none : (b : ℕ) → b < 48 → is_digit b ≡ false
+pub low_none : (b : ℕ) → b < 48 → is_digit b ≡ false
 unfolding is_digit
 low_none b h = rw (lt-leb 48 b h)
 
-high_none : (b : ℕ) → 57 < b → is_digit b ≡ false
+pub high_none : (b : ℕ) → 57 < b → is_digit b ≡ false
 unfolding is_digit
 high_none b h = rw (lt-leb b 57 h, and-false (leb 48 b))
-
-pub digit_low : {b : ℕ} → b < 48 → DigitOf b 10
-digit_low {b} h = record { is = λ l. absurd (omega arith); small = omega arith; none = λ _. low_none b h }
-
-pub digit_high : {b : ℕ} → 57 < b → DigitOf b 10
-digit_high {b} h = record { is = λ l. absurd (omega arith); small = omega arith; none = λ _. high_none b h }
-
-pub digit_here : {b : ℕ} → 48 ≤ b → b ≤ 57 → DigitOf b (b - 48)
-digit_here {b} l h = record { is = λ _. omega arith; small = omega arith; none = λ k. absurd (omega arith) }
-
--- the byte looked at, and its digit
-pub digit_of : {s : List ℕ} {k b r : ℕ} → ByteAt s k b → DigitOf b r → DigitOf (get_or s k 0) r
-digit_of w d = rw (← w.is) d
 
 -- ---- numbers
 
@@ -114,12 +102,3 @@ counted_more {s} {at} {next} {v} {d} c h e q =
 
 pub counted_bound : {s : List ℕ} {at next v : ℕ} → Counted s at next v → v ≤ 65536
 counted_bound c = rw c.value (held_bound c.number)
-
-pub digits_read : {s : List ℕ} {at v next : ℕ} → Counted s at next v → is_digit (get_or s next 0) ≡ false → DigitsRead s at (Read v next)
-digits_read {s} {at} {v} {next} c f = record {
-  read = λ w m e. let p : v ≡ w = cc in let q : next ≡ m = cc in rw (← p, ← q) (c, f);
-  missing = λ e. absurd (let z : ◌≡◌ {A = ℕ} 0 1 = cc in omega arith);
-}
-
-pub digits_missing : {s : List ℕ} {at : ℕ} → is_digit (get_or s at 0) ≡ false → DigitsRead s at Missing
-digits_missing {s} {at} f = record { read = λ w m e. absurd (let z : ◌≡◌ {A = ℕ} 0 1 = cc in omega arith); missing = λ e. f }

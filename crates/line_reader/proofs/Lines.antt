@@ -4,6 +4,7 @@ use mathlib.Core.Path.{◌≡◌, refl, subst, ◌∙◌}
 use mathlib.Core.Logic.{◌≢◌, inr}
 use mathlib.Core.Bool.{false}
 use mathlib.Core.List.{List}
+use Rattle.std.specs.Prelude.{Option, Err}
 use Prim.Native.Nat.{ℕ, ◌+◌, ◌-◌, ◌<◌, ◌≤◌}
 use native.Mathlib.Nat.{le_refl}
 use native.Mathlib.Omega.{arith}
@@ -19,25 +20,25 @@ use Rattle.grammar.specs.Runs.{ExpressionRun}
 use Rattle.grammar.proofs.Runs.{PrimeRead}
 use Rattle.grammar.specs.Stopping.{Stopped}
 use Rattle.grammar.proofs.Stopping.{stopped_is}
-use Rattle.line_values.specs.declared.Piece.{Piece}
-use Rattle.line_reader.specs.declared.TypedLine.{TypedLine}
+use Rattle.line_values.specs.Worth.{Value, Worth}
+use Rattle.refusals.specs.declared.Refused.{Refused}
+use Rattle.refusals.specs.declared.Refusal.TheVariants.{NotALine, LineTooLarge}
 use Rattle.line_reader.specs.Levels as levels
-use Rattle.line_reader.specs.LineContracts.{ByteAt, Skipped, Counted, Halts, ExpressionStands}
-use Rattle.line_reader.specs.Gives.{Gives, IsTurnedBack, PrimeIn, StandIn, WorkedOut, LineRead}
+use Rattle.line_reader.specs.LineContracts.{ByteAt, Skipped, Counted, HaltsAt, ExpressionStands}
+use Rattle.line_reader.specs.Gives.{Gives, PrimeIn, stand_in, WorkedOut, LineRead}
 use Rattle.line_reader.proofs.Bytes.{behind, between}
-use Rattle.line_reader.proofs.Judging.{gives_refused}
+use Rattle.line_reader.proofs.Judging.{IsAt, Outcome, gives_refused}
 use Rattle.line_reader.proofs.Behind.{prime_follows, stopped_open, stopped_prime, no_prime, no_colon}
 
 -- what a line gives, if it is short enough
-abbrev Read : List ℕ → TypedLine → Type 0
+abbrev Read : List ℕ → Outcome → Type 0
 Read s r = length s ≤ line_limit → (o : calls.Outcome) × Typed answer_area s o × Gives r o
 
-line_stops : {s : List ℕ} {k : ℕ} {r : TypedLine} → Stopped s k → IsTurnedBack 15 k r → Read s r
-line_stops {k = k} w i short =
-    (calls.refused 15 k, no_line (le_refl answer_area) short (stopped_is w) refl, gives_refused (λ z. omega (arith, z)) i)
+line_stops : {s : List ℕ} {k : ℕ} {e : Refused} → Stopped s k → IsAt NotALine k e → Read s (Err e)
+line_stops {k = k} w i short = (calls.refused 15 k, no_line (le_refl answer_area) short (stopped_is w) refl, gives_refused NotALine refl i)
 
 module _ {s : List ℕ} where
-  pub no_prime_read : {r : TypedLine} → is_digit (get_or s 0 0) ≡ false → IsTurnedBack 15 0 r → Read s r
+  pub no_prime_read : {e : Refused} → is_digit (get_or s 0 0) ≡ false → IsAt NotALine 0 e → Read s (Err e)
   no_prime_read f = line_stops (stopped_open (omega arith) (runs.after_none s) refl refl (no_prime _ f))
 
   module _ {end v : ℕ} (c : Counted s 0 end v) where
@@ -50,8 +51,8 @@ module _ {s : List ℕ} where
         runs.over_blanks (λ k. PrimeRead c.number (after s k)) w.blanks (runs.prime_read prime_runs)
         (λ k a h. rw (runs.after_suc s k, a.is) (runs.prime_blank h))
 
-    pub no_colon_read : {colon b : ℕ} {r : TypedLine} → is_digit (get_or s end 0) ≡ false → Skipped s end colon → ByteAt s colon b → b ≢ 58
-        → IsTurnedBack 15 colon r → Read s r
+    pub no_colon_read : {colon b : ℕ} {e : Refused} → is_digit (get_or s end 0) ≡ false → Skipped s end colon → ByteAt s colon b → b ≢ 58
+        → IsAt NotALine colon e → Read s (Err e)
     no_colon_read f w a h =
         line_stops (stopped_prime w.within (prime_past w) (prime_follows w prime_runs f ∙ no_colon _ _ w.ends (λ z. h (a.is ∙ z))))
 
@@ -60,15 +61,17 @@ module _ {s : List ℕ} where
       begins : after s from ≡ wants (bottom c.number)
       begins = runs.still (behind b) (runs.wants_blank _) (runs.moves a refl (runs.prime_colon (prime_past w)))
 
-      pub no_expression_read : {place : ℕ} {r : TypedLine} → Halts Fresh s from place → IsTurnedBack 15 place r → Read s r
-      no_expression_read h = line_stops (h.stopped _ tt begins)
+      pub no_expression_read : {e : Refused} → HaltsAt Fresh s from e → Read s (Err e)
+      no_expression_read {e} h =
+          let is : IsAt NotALine e.place e = λ i. record { why = h.number i; place = e.place } in
+          line_stops (h.halts.stopped _ tt begins) is
 
-      module _ {p : ℕ} {whole : Piece} (t : ExpressionStands s p from whole.end whole) where
-        run : ExpressionRun (bottom c.number) t.tree (after s whole.end)
+      module _ {p last : ℕ} {whole : Value} (t : ExpressionStands s p from last whole) where
+        run : ExpressionRun (bottom c.number) t.tree (after s last)
         run = runs.expression_runs t.stands _ tt begins
 
         -- the expression ends before the line does
-        pub more_read : {place : ℕ} {r : TypedLine} → whole.end < length s → Skipped s whole.end place → IsTurnedBack 15 place r → Read s r
+        pub more_read : {place : ℕ} {e : Refused} → last < length s → Skipped s last place → IsAt NotALine place e → Read s (Err e)
         more_read {place} l k = line_stops (record {
           within = k.within;
           living = runs.ended_alive (runs.still_ended k.blanks run.ended);
@@ -76,11 +79,11 @@ module _ {s : List ℕ} where
           at_end = λ e. inr (place - 1, omega (arith, k.blanks.order), k.blanks.all (place - 1) (omega arith) (omega arith));
         })
 
-        pub line_read : {q : ℕ} {r : TypedLine} → length s ≤ whole.end → PrimeIn v q → StandIn q p → WorkedOut v q whole r → Read s r
-        line_read l h m o short = (
+        pub line_read : (q : Option ℕ) {r : Outcome} → length s ≤ last → p ≡ stand_in q → PrimeIn v q → WorkedOut v q whole r → Read s r
+        line_read q l m h o short = (
           _,
           is_line (le_refl answer_area) short (line c.stands (between w a b) (ends (omega (arith, t.within)) t.stands)) refl,
-          o.gives c.number p t.tree c.value h m t.worth,
+          o.gives c.number t.tree c.value h (subst (λ (n : ℕ). Worth n t.tree whole) m t.worth),
         )
           where
             ends : {i j k : ℕ} {e : Tree} → j ≡ k → Expression s i j e → Expression s i k e
@@ -88,8 +91,8 @@ module _ {s : List ℕ} where
 
 -- ---- any line
 
-pub too_long : {s : List ℕ} {r : TypedLine} → line_limit < length s → IsTurnedBack 16 0 r → LineRead s r
-too_long l i = record { outcome = calls.refused 16 0; typed = long_line (le_refl answer_area) l refl; gives = gives_refused (λ z. omega (arith, z)) i }
+pub too_long : {s : List ℕ} {e : Refused} → line_limit < length s → IsAt LineTooLarge 0 e → LineRead s (Err e)
+too_long l i = record { outcome = calls.refused 16 0; typed = long_line (le_refl answer_area) l refl; gives = gives_refused LineTooLarge refl i }
 
-pub as_read : {s : List ℕ} {r : TypedLine} → (o : calls.Outcome) × Typed answer_area s o × Gives r o → LineRead s r
+pub as_read : {s : List ℕ} {r : Outcome} → (o : calls.Outcome) × Typed answer_area s o × Gives r o → LineRead s r
 as_read (o, typed, gives) = record { outcome = o; typed = typed; gives = gives }

@@ -1,4 +1,4 @@
-mod Judging
+pub mod Judging
 mod Pieces
 mod Sums
 mod Products

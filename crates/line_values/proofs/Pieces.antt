@@ -3,7 +3,8 @@
 use mathlib.Core.Path.{◌≡◌, refl, sym, ◌∙◌, ap, ap₂, subst}
 use mathlib.Core.Bool.{Bool, true, false, ◌||◌}
 use mathlib.Core.List.{List, [], ◌∷◌}
-use mathlib.Core.Logic.{◌≢◌, ◌⊎◌, inl, inr}
+use Rattle.std.specs.Prelude.{Ok, Err}
+use mathlib.Core.Logic.{◌⊎◌, inl, inr}
 use Prim.Native.Nat.{ℕ, ◌%◌, ◌<◌, ◌≤◌}
 use native.Mathlib.Nat.{mod-lt}
 use native.Mathlib.Omega.{arith}
@@ -25,8 +26,10 @@ use Rattle.arrays.specs.Trimming.{length_trim, same_trim}
 use Rattle.arrays.specs.Terms.{constant_set}
 use Rattle.arrays.specs.MonomialArray.{IsMonomial, monomial_represents}
 use Rattle.grammar.specs.Meanings.{terms, meaning_low}
-use Rattle.line_values.specs.declared.Piece.{Piece}
-use Rattle.line_values.specs.Worth.{held, judged, tree_number, Worth, IsPiece, Worse, OfNumber, OfX}
+use Rattle.refusals.specs.declared.Refusal.{Refusal}
+use Rattle.refusals.specs.declared.Refusal.TheVariants.{LineTooLarge}
+use Rattle.refusals.specs.Numbers.{number_of}
+use Rattle.line_values.specs.Worth.{held, judged, tree_number, Value, number_in, Worth, Worse, OfNumber, OfX}
 use Rattle.line_values.specs.HeldNumbers.{held_small, held_large}
 use Rattle.line_values.proofs.Judging.{judged_none}
 
@@ -58,26 +61,25 @@ pub power_number : (p : ℕ) (t : Tree) (k : ℕ) → tree_number p (power t k) 
 unfolding tree_number any_part is_large
 power_number p t k = refl
 
--- ---- a piece with a value
+-- ---- a value
 
-module _ {p : ℕ} {t : Tree} {a : Piece} (w : Worth p t a) (z : a.number ≡ 0) where
+module _ {p : ℕ} {t : Tree} {f : List ℕ} (w : Worth p t (Ok f)) where
   pub none : (large t ≡ false) × (high p t ≡ false)
-  none = judged_none (large t) (high p t) (sym (tree_number_lem p t) ∙ sym w.number ∙ z)
+  none = judged_none (large t) (high p t) (sym (w.number ∙ tree_number_lem p t))
 
   -- the tree has as many terms as the array
-  pub sized : taken p ≡ true → {s : ℕ} → Size a.coefs s → terms p t ≡ s
-  sized prime size =
-      ap length (sym (same_trim a.coefs (meaning p t) (w.value z).reduced.low (meaning_low p prime t) (w.value z).is)) ∙ length_trim size
+  pub sized : taken p ≡ true → {s : ℕ} → Size f s → terms p t ≡ s
+  sized prime size = ap length (sym (same_trim f (meaning p t) w.value.reduced.low (meaning_low p prime t) w.value.is)) ∙ length_trim size
 
 -- a piece that is turned back
-pub back : {p k at : ℕ} {t : Tree} {r : Piece} → IsPiece k at r → k ≢ 0 → k ≡ tree_number p t → Worth p t r
-back is ne e = record { number = is.number ∙ e; value = λ z. absurd (ne (sym is.number ∙ z)) }
+pub back : {p : ℕ} {t : Tree} {why : Refusal} → number_of why ≡ tree_number p t → Worth p t (Err why)
+back e = record { number = e; value = tt }
 
 -- the number of two pieces
-module _ {p : ℕ} {a b : Piece} {k : ℕ} (worse : Worse a.number b.number k) where
-  pub joined : {t u : Tree} → Worth p t a → Worth p u b → k ≡ judged (large t || large u) (high p t || high p u)
-  joined {t} {u} wt wu =
-      worse.is (large t) (high p t) (large u) (high p u) (wt.number ∙ tree_number_lem p t) (wu.number ∙ tree_number_lem p u)
+pub joined : {p k : ℕ} {a b : Value} → Worse (number_in a) (number_in b) k → {t u : Tree} → Worth p t a → Worth p u b
+    → k ≡ judged (large t || large u) (high p t || high p u)
+joined {p} worse {t} {u} wt wu =
+    worse.is (large t) (high p t) (large u) (high p u) (wt.number ∙ tree_number_lem p t) (wu.number ∙ tree_number_lem p u)
 
 -- ---- a number, and x
 
@@ -97,40 +99,34 @@ variable_number : (p : ℕ) → tree_number p variable ≡ 0
 unfolding tree_number any_part is_large is_high judged
 variable_number p = refl
 
-pub number_large : {p v at : ℕ} {r : Piece} → IsPiece 16 at r → number_limit < v → OfNumber p v at r
+pub number_large : {p v : ℕ} → number_limit < v → OfNumber p v (Err LineTooLarge)
 unfolding judged
-number_large {p} {v} is l = record {
-  end = is.end;
-  worth = λ k e.
-      back is (λ q. absurd (omega (arith, q)))
-      (sym (number_number p k ∙ ap (λ (b : Bool). judged b false) (lt-ltb number_limit k (over k e (lt_or_le number_limit k)))));
+number_large {p} {v} l = record {
+  worth = λ k e. back (sym (number_number p k ∙ ap (λ (b : Bool). judged b false) (lt-ltb number_limit k (over k e (lt_or_le number_limit k)))));
 }
   where
     over : (k : ℕ) → v ≡ held k → (number_limit < k) ⊎ (k ≤ number_limit) → number_limit < k
     over k e (inl m) = m
     over k e (inr m) = absurd (omega (arith, e, held_small k m))
 
-pub number_small : {p v at n : ℕ} {r : Piece} → taken p ≡ true → v ≤ number_limit → n ≡ p ² → r.number ≡ 0 → r.end ≡ at
-    → r.coefs ≡ set (replicate 33 0) 0 (v % n) → OfNumber p v at r
+pub number_small : {p v n : ℕ} → taken p ≡ true → v ≤ number_limit → n ≡ p ² → OfNumber p v (Ok (set (replicate 33 0) 0 (v % n)))
 unfolding judged meaning
-number_small {p} {v} {n = n} prime l square value end coefs = record {
-  end = end;
+number_small {p} {v} {n = n} prime l square = record {
   worth = λ k e. record {
-    number = value ∙ sym (number_number p k ∙ ap (λ (b : Bool). judged b false) (le-ltb number_limit k (omega (arith, unheld v k l e))));
-    value = λ _.
-        subst (λ (f : List ℕ). Represents (p ²) f (poly (p ²) (k % p ² ∷ []))) (sym (coefs ∙ ap (λ (m : ℕ). set (replicate 33 0) 0 (v % m)) square))
+    number = sym (number_number p k ∙ ap (λ (b : Bool). judged b false) (le-ltb number_limit k (omega (arith, unheld v k l e))));
+    value =
+        subst (λ (m : ℕ). Represents (p ²) (set (replicate 33 0) 0 (v % m)) (poly (p ²) (k % p ² ∷ []))) (sym square)
         (subst (λ (j : ℕ). Represents (p ²) (set (replicate 33 0) 0 (v % p ²)) (poly (p ²) (j % p ² ∷ []))) (sym (unheld v k l e))
         (constant_set (p ²) (mod-lt v (omega (arith, square_above_one p prime)))));
   };
 }
 
-pub variable_with : {p at : ℕ} {r : Piece} → taken p ≡ true → r.number ≡ 0 → r.end ≡ at → IsMonomial 1 r.coefs → OfX p at r
+pub variable_with : {f : List ℕ} → IsMonomial 1 f → OfX (Ok f)
 unfolding meaning
-variable_with {p} prime value end m = record {
-  end = end;
-  worth = record {
-    number = value ∙ sym (variable_number p);
-    value = λ _.
+variable_with m = record {
+  worth = λ p prime. record {
+    number = sym (variable_number p);
+    value =
         let h = monomial_represents m (square_above_one p prime) in
         record { reduced = h.reduced; is = h.is ∙ pow_one (𝓩[x]/ (p ²)) x ∙ sym (poly_x (p ²)) };
   };

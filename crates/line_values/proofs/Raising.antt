@@ -1,6 +1,6 @@
--- The loop of a power: `Raised n f d i r m`, the array r is f to the power i modulo n, where f has degree d at most, and m is one more than i times d.
+-- The loop of a power: after i turns the array r is f to the power i modulo n, where f has degree d at most.
 -- Proves it of 1, after one factor more, and how many terms it leaves. Assumes nothing.
-use mathlib.Core.Path.{◌≡◌, sym, ◌∙◌, ap, subst}
+use mathlib.Core.Path.{◌≡◌, sym, ◌∙◌, ap}
 use mathlib.Core.List.{List}
 use Prim.Native.Nat.{ℕ, suc, ◌+◌, ◌*◌, ◌<◌, ◌≤◌}
 use native.Mathlib.Nat.{mul-le-mul_right}
@@ -17,33 +17,22 @@ pub record Raised (n : ℕ) (f : List ℕ) (d i : ℕ) (r : List ℕ) (m : ℕ) 
   pub power : Represents n r (pow (𝓩[x]/ n) (poly n f) i)
   pub terms : m ≡ suc (i * d)
 
-module _ {n : ℕ} {f : List ℕ} {d : ℕ} where
-  pub raised_none : 1 < n → {r : List ℕ} → IsMonomial 0 r → Raised n f d 0 r 1
-  raised_none large m =
-      let one = monomial_represents m large in
-      record {
-        power = record { reduced = one.reduced; is = one.is ∙ pow_zero (𝓩[x]/ n) x ∙ sym (pow_zero (𝓩[x]/ n) (poly n f)) };
-        terms = omega arith;
-      }
+pub raised_none : {n : ℕ} (f : List ℕ) {r : List ℕ} → 1 < n → IsMonomial 0 r → Represents n r (pow (𝓩[x]/ n) (poly n f) 0)
+raised_none {n} f large m =
+    let one = monomial_represents m large in
+    record { reduced = one.reduced; is = one.is ∙ pow_zero (𝓩[x]/ n) x ∙ sym (pow_zero (𝓩[x]/ n) (poly n f)) }
 
-  module _ {i : ℕ} {r : List ℕ} {m : ℕ} (h : Raised n f d i r m) where
-    pub raised_more : {next : List ℕ} → Represents n next (poly n f · poly n r) → Raised n f d (i + 1) next (m + d)
-    raised_more rep = record {
-      power = record {
-        reduced = rep.reduced;
-        is = rep.is ∙ ap (λ g. poly n f · g) h.power.is ∙ sym (pow_suc (𝓩[x]/ n) (poly n f) i)
-            ∙ ap (pow (𝓩[x]/ n) (poly n f)) (sym (add-one i));
-      };
-      terms = omega (arith, h.terms);
-    }
+module _ {n : ℕ} (f : List ℕ) (i : ℕ) {r : List ℕ} (h : Represents n r (pow (𝓩[x]/ n) (poly n f) i)) where
+  pub raised_more : {next : List ℕ} → Represents n next (poly n f · poly n r) → Represents n next (pow (𝓩[x]/ n) (poly n f) (i + 1))
+  raised_more rep = record {
+    reduced = rep.reduced;
+    is = rep.is ∙ ap (λ g. poly n f · g) h.is ∙ sym (pow_suc (𝓩[x]/ n) (poly n f) i) ∙ ap (pow (𝓩[x]/ n) (poly n f)) (sym (add-one i));
+  }
 
-    -- no term from m on
-    pub raised_below : Below (suc d) (poly n f) → Below m (poly n r)
-    raised_below low = rw (h.terms, h.power.is) (below_pow low i)
+  -- where f has degree d at most, r has i times d
+  pub raised_below : {d : ℕ} → Below (suc d) (poly n f) → Below (i * d + 1) (poly n r)
+  raised_below {d} low = rw (h.is, add-one) (below_pow low i)
 
-    -- one factor more still fits an array
-    pub raised_fits : {e : ℕ} → i < e → e * d ≤ 32 → d + m ≤ 33
-    raised_fits {e} l fits = omega (arith, h.terms, mul-le-mul_right d (let q : suc i ≤ e = omega arith in q))
-
-    pub raised_done : {e : ℕ} → i ≡ e → Represents n r (pow (𝓩[x]/ n) (poly n f) e)
-    raised_done q = subst (λ (j : ℕ). Represents n r (pow (𝓩[x]/ n) (poly n f) j)) q h.power
+-- one factor more still fits an array
+pub raised_fits : (i d : ℕ) {e : ℕ} → i < e → e * d ≤ 32 → d + (i * d + 1) ≤ 33
+raised_fits i d {e} l fits = omega (arith, mul-le-mul_right d (let q : suc i ≤ e = omega arith in q))

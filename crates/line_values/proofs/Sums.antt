@@ -1,53 +1,56 @@
 -- What a sum or a difference of two pieces is worth.
--- Proves its contract from what the code finds: the worse of the numbers, and the array of the whole. Assumes nothing.
+-- Proves its contract from what the code finds: the refusal of the two, or the array of the whole. Assumes nothing.
 use mathlib.Core.Path.{◌≡◌, sym, ◌∙◌, ap₂}
-use mathlib.Core.Logic.{◌≢◌}
+use mathlib.Core.Bool.{false, ◌||◌}
+use mathlib.Core.List.{List}
 use Prim.Native.Nat.{ℕ, ◌<◌}
+use Rattle.std.specs.Prelude.{Ok, Err}
 use Rattle.specification.specs.Limits.{◌²}
-use Rattle.specification.specs.Grammar.{minus_sign}
+use Rattle.specification.specs.Grammar.{Tree}
 use Rattle.specification.specs.TypedLines.{meaning}
 use Rattle.algebra.specs.PolynomialRing.{◌+ᴿ◌, -ᴿ◌}
 use Rattle.algebra.specs.CoefficientLists.{poly, poly_add, poly_sub}
 use Rattle.arrays.specs.Represents.{Represents}
-use Rattle.line_values.specs.declared.Piece.{Piece}
-use Rattle.line_values.specs.Worth.{IsPiece, Worse, OfSum}
-use Rattle.line_values.proofs.Pieces.{plus_number, minus_number, back, joined}
+use Rattle.refusals.specs.declared.Refusal.{Refusal}
+use Rattle.refusals.specs.Numbers.{number_of}
+use Rattle.line_values.specs.declared.Sign.{Sign}
+use Rattle.line_values.specs.declared.Sign.TheVariants.{Plus, Minus}
+use Rattle.line_values.specs.Worth.{tree_number, judged, Value, number_in, Worth, Worse, signed, OfSum}
+use Rattle.line_values.proofs.Judging.{judged_high}
+use Rattle.line_values.proofs.Pieces.{large, high, plus_number, minus_number, none, back, joined}
 
-module _ {p : ℕ} {a b : Piece} {k : ℕ} (worse : Worse a.number b.number k) where
-  pub sum_without : {sign : ℕ} {r : Piece} → IsPiece k b.end r → k ≢ 0 → OfSum p sign a b r
-  sum_without is ne = record {
-    end = is.end;
-    sum = λ other t u wt wu. back is ne (joined worse wt wu ∙ sym (plus_number p t u));
-    difference = λ same t u wt wu. back is ne (joined worse wt wu ∙ sym (minus_number p t u));
+signed_number : (p : ℕ) (sign : Sign) (t u : Tree) → tree_number p (signed sign t u) ≡ judged (large t || large u) (high p t || high p u)
+signed_number p Plus t u = plus_number p t u
+signed_number p Minus t u = minus_number p t u
+
+pub sum_without : {p : ℕ} {a b : Value} {why : Refusal} (sign : Sign) → Worse (number_in a) (number_in b) (number_of why) → OfSum p sign a b (Err why)
+sum_without {p} sign worse = record { worth = λ t u wt wu. back (joined worse wt wu ∙ sym (signed_number p sign t u)) }
+
+module _ {p : ℕ} (pos : 0 < p ²) {f g : List ℕ} where
+  no_number : (sign : Sign) {t u : Tree} → Worth p t (Ok f) → Worth p u (Ok g) → 0 ≡ tree_number p (signed sign t u)
+  no_number sign {t} {u} wt wu =
+      sym (signed_number p sign t u ∙ ap₂ judged (ap₂ ◌||◌ (none wt).0 (none wu).0) (ap₂ ◌||◌ (none wt).1 (none wu).1) ∙ judged_high false)
+
+  pub sum_with : {r : List ℕ} → Represents (p ²) r (poly (p ²) f +ᴿ poly (p ²) g) → OfSum p Plus (Ok f) (Ok g) (Ok r)
+  unfolding meaning
+  sum_with h = record {
+    worth = λ t u wt wu. record {
+      number = no_number Plus wt wu;
+      value = record {
+        reduced = h.reduced;
+        is = h.is ∙ ap₂ ◌+ᴿ◌ wt.value.is wu.value.is ∙ sym (poly_add (p ²) pos (meaning p t) (meaning p u));
+      };
+    };
   }
 
-  module _ (pos : 0 < p ²) {sign : ℕ} {r : Piece} (z : k ≡ 0) (value : r.number ≡ 0) (end : r.end ≡ b.end) where
-    pub sum_with : sign ≢ minus_sign → Represents (p ²) r.coefs (poly (p ²) a.coefs +ᴿ poly (p ²) b.coefs) → OfSum p sign a b r
-    unfolding meaning
-    sum_with other h = record {
-      end = end;
-      sum = λ _ t u wt wu. record {
-        number = value ∙ sym z ∙ joined worse wt wu ∙ sym (plus_number p t u);
-        value = λ _. record {
-          reduced = h.reduced;
-          is = h.is ∙ ap₂ ◌+ᴿ◌ (wt.value (worse.none z).0).is (wu.value (worse.none z).1).is
-              ∙ sym (poly_add (p ²) pos (meaning p t) (meaning p u));
-        };
+  pub difference_with : {r : List ℕ} → Represents (p ²) r (poly (p ²) f +ᴿ -ᴿ poly (p ²) g) → OfSum p Minus (Ok f) (Ok g) (Ok r)
+  unfolding meaning
+  difference_with h = record {
+    worth = λ t u wt wu. record {
+      number = no_number Minus wt wu;
+      value = record {
+        reduced = h.reduced;
+        is = h.is ∙ ap₂ (λ a b. a +ᴿ -ᴿ b) wt.value.is wu.value.is ∙ sym (poly_sub (p ²) pos (meaning p t) (meaning p u));
       };
-      difference = λ same. absurd (other same);
-    }
-
-    pub difference_with : sign ≡ minus_sign → Represents (p ²) r.coefs (poly (p ²) a.coefs +ᴿ -ᴿ poly (p ²) b.coefs) → OfSum p sign a b r
-    unfolding meaning
-    difference_with same h = record {
-      end = end;
-      sum = λ other. absurd (other same);
-      difference = λ _ t u wt wu. record {
-        number = value ∙ sym z ∙ joined worse wt wu ∙ sym (minus_number p t u);
-        value = λ _. record {
-          reduced = h.reduced;
-          is = h.is ∙ ap₂ (λ f g. f +ᴿ -ᴿ g) (wt.value (worse.none z).0).is (wu.value (worse.none z).1).is
-              ∙ sym (poly_sub (p ²) pos (meaning p t) (meaning p u));
-        };
-      };
-    }
+    };
+  }

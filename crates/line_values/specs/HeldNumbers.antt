@@ -1,8 +1,8 @@
--- Numbers as the code holds them, and the numbers 0, 16 and 17 of a piece.
--- Proves that a held number is the number itself up to 65,535, and grows by a digit as it does; that a piece that is worth a tree has not 15, and what its
--- number says of the tree.
+-- Numbers as the code holds them, and the numbers 0, 16 and 17 of a value.
+-- Proves that a held number is the number itself up to 65,535, and grows by a digit as it does; that a value that is worth a tree has not 15, what its
+-- number says of the tree, and that it is reduced.
 -- Assumes nothing.
-use Rattle.std.specs.Prelude.{◌≡◌, Bool, ◌≢◌, ℕ, ◌+◌, ◌*◌, ◌<◌, ◌≤◌}
+use Rattle.std.specs.Prelude.{◌≡◌, Bool, ◌≢◌, ℕ, ◌+◌, ◌*◌, ◌<◌, ◌≤◌, Ok, Err}
 use Rattle.std.proofs.Math.Path.{refl}
 use Rattle.std.proofs.Common.{sym, ◌∙◌, le_refl, arith, le-leb}
 use Rattle.std.proofs.Math.Bool.{true, false}
@@ -11,8 +11,7 @@ use Rattle.std.proofs.lemmas.Bool.{lt-leb}
 use Rattle.specification.specs.Limits.{number_limit}
 use Rattle.specification.specs.Grammar.{Tree}
 use Rattle.specification.specs.TypedLines.{any_part, is_large, is_high}
-use Rattle.line_values.specs.declared.Piece.{Piece}
-use Rattle.line_values.specs.Worth.{held, judged, tree_number, Worth}
+use Rattle.line_values.specs.Worth.{held, judged, tree_number, Value, number_in, Worth, Sound}
 
 pub held_small : (k : ℕ) → k ≤ number_limit → held k ≡ k
 unfolding held
@@ -59,14 +58,19 @@ judged_read true high e = omega (arith, e)
 judged_read false true e = omega (arith, e)
 judged_read false false e = omega (arith, e)
 
--- a piece that is worth a tree has been read
-pub worth_read : {p : ℕ} {t : Tree} {a : Piece} → Worth p t a → a.number ≢ 15
+-- the number of a value is not 15
+pub worth_read : {p : ℕ} {t : Tree} {a : Value} → Worth p t a → number_in a ≢ 15
 unfolding tree_number
 worth_read {p} {t} w e = judged_read (any_part is_large t) (any_part (is_high p) t) (sym w.number ∙ e)
 
+-- what stands for a polynomial is reduced
+pub worth_sound : {p : ℕ} {t : Tree} (a : Value) → Worth p t a → Sound p a
+worth_sound (Ok f) w = w.value.reduced
+worth_sound (Err why) w = tt
+
 -- 16 where a part is too large, and nowhere else; then 17 where one is too high; 0 where neither is
-module _ {p : ℕ} {t : Tree} {a : Piece} (w : Worth p t a) where
-  pub number_large : a.number ≡ 16 → any_part is_large t ≡ true
+module _ {p : ℕ} {t : Tree} {a : Value} (w : Worth p t a) where
+  pub number_large : number_in a ≡ 16 → any_part is_large t ≡ true
   unfolding tree_number judged
   number_large z = at (any_part is_large t) (any_part (is_high p) t) (sym w.number ∙ z)
     where
@@ -75,7 +79,7 @@ module _ {p : ℕ} {t : Tree} {a : Piece} (w : Worth p t a) where
       at false true q = absurd (omega (arith, q))
       at false false q = absurd (omega (arith, q))
 
-  pub number_small : a.number ≢ 16 → any_part is_large t ≡ false
+  pub number_small : number_in a ≢ 16 → any_part is_large t ≡ false
   unfolding tree_number judged
   number_small ne = at (any_part is_large t) (any_part (is_high p) t) (λ q. ne (w.number ∙ q))
     where
@@ -83,7 +87,7 @@ module _ {p : ℕ} {t : Tree} {a : Piece} (w : Worth p t a) where
       at true high q = absurd (q refl)
       at false high q = refl
 
-  pub number_high : a.number ≢ 16 → a.number ≢ 0 → any_part (is_high p) t ≡ true
+  pub number_high : number_in a ≢ 16 → number_in a ≢ 0 → any_part (is_high p) t ≡ true
   unfolding tree_number judged
   number_high ne z = at (any_part is_large t) (any_part (is_high p) t) (λ q. ne (w.number ∙ q)) (λ q. z (w.number ∙ q))
     where
@@ -92,7 +96,7 @@ module _ {p : ℕ} {t : Tree} {a : Piece} (w : Worth p t a) where
       at false true q r = refl
       at false false q r = absurd (r refl)
 
-  pub number_low : a.number ≡ 0 → any_part (is_high p) t ≡ false
+  pub number_low : number_in a ≡ 0 → any_part (is_high p) t ≡ false
   unfolding tree_number judged
   number_low z = at (any_part is_large t) (any_part (is_high p) t) (sym w.number ∙ z)
     where

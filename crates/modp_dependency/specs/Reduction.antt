@@ -1,7 +1,9 @@
 -- The reduction of the image of x^i by the rows: `TakenOff`, its leading term is taken off by the row in its slot, and as much off the preimage;
 -- `ReducedTo p t o m n i rows k u w`, u and w are what the rows have left of the image under t and of x^i so far, where u has k terms; m images, n slots.
+-- `Reducible`, some such u and w are given; `ReducedBy`, whatever they are left of, what is left now is left of that too, and no row is left
+-- for it.
 -- Proves that what the code takes off is such a step, and that the reduction goes on with it. Assumes nothing.
-use Rattle.std.specs.Prelude.{◌≡◌, List, [], ℕ, suc, ◌<◌, ◌≤◌, ◌-◌, get_or}
+use Rattle.std.specs.Prelude.{◌≡◌, ◌≢◌, ◌⊎◌, List, [], ℕ, suc, ◌<◌, ◌≤◌, ◌-◌, get_or, length}
 use Rattle.std.proofs.Common.{sym, ◌∙◌, ap, arith}
 use Rattle.algebra.specs.Residues.{residue}
 use Rattle.algebra.specs.PolynomialRing.{◌+ᴿ◌, ◌·◌, constant}
@@ -17,7 +19,8 @@ use Rattle.frobenius.specs.RowReduction.{Stage, Reducing, reducing_more, reducin
 use Rattle.modular.specs.InPlace.{Added}
 use Rattle.modular.proofs.AddMultiple.{multiple_added_to}
 use Rattle.modular.specs.Multiples.{multiple_taken_off}
-use Rattle.modp_dependency.specs.StoredRows.{poly_at}
+use Rattle.modp_dependency.specs.declared.Row.{Row}
+use Rattle.modp_dependency.specs.StoredRows.{poly_at, ReducedRows, row_images, row_preimages, no_row, image_at, preimage_at, slot_filled}
 
 -- by the row (a, b) an image u of k terms has become u', which has r terms, and its preimage w has become w'
 pub record TakenOff (p k : ℕ) (u w a b u' w' : List ℕ) (r : ℕ) : Type 0 where
@@ -65,6 +68,21 @@ pub record ReducedTo (p : ℕ) (t : ℕ → ℤ[x]/ p) (o m n i : ℕ) (rows : L
   pub preimage : Reduced p 33 w
   pub reducing : Reducing t m n o (poly_at p rows) i k (poly p u) (poly p w)
 
+pub record Reducible (p i : ℕ) (rows : List Row) (k : ℕ) (u w : List ℕ) : Type 0 where
+  pub of : ℕ → ℤ[x]/ p
+  pub least : ℕ
+  pub most : ℕ
+  pub terms : ℕ
+  pub slots : length rows ≡ 33
+  pub low : i ≤ 33
+  pub reduced : ReducedRows p (row_images rows) × ReducedRows p (row_preimages rows)
+  pub stage : Stage of most terms least (poly_at p (row_images rows)) (poly_at p (row_preimages rows)) i
+  pub left : ReducedTo p of least most terms i (row_images rows) k u w
+
+pub record ReducedBy (p i : ℕ) (rows : List Row) (k : ℕ) (u w : List ℕ) (k' : ℕ) (u' w' : List ℕ) : Type 0 where
+  pub goes_on : (h : Reducible p i rows k u w) → ReducedTo p h.of h.least h.most h.terms i (row_images rows) k' u' w'
+  pub stops : (k' ≡ 0) ⊎ (get_or (get_or rows (k' - 1) no_row).image (k' - 1) 0 ≡ 0)
+
 -- the leading term is taken off by the row in its slot
 pub reduced_more : {p : ℕ} {t : ℕ → ℤ[x]/ p} {o m n i : ℕ} {rows : List (List ℕ)} (preimages : List (List ℕ)) {k l : ℕ} {u w u' w' : List ℕ} → 0 < k
     → Stage t m n o (poly_at p rows) (poly_at p preimages) i → ReducedTo p t o m n i rows k u w
@@ -83,3 +101,29 @@ reduced_more {p} {t} {o} {m} {n} preimages {k} {l} pos S h off = record {
 
     down : l ≤ k - 1
     down = omega (arith, off.fewer)
+
+-- what is taken off the image by the row in its slot
+module _ {p i : ℕ} {rows : List Row} {k₀ : ℕ} {u₀ w₀ : List ℕ} (h : Reducible p i rows k₀ u₀ w₀) {k : ℕ} {u w : List ℕ} (pos : 0 < k)
+    (L : ReducedTo p h.of h.least h.most h.terms i (row_images rows) k u w) where
+  abbrev row : Row
+  row = get_or rows (k - 1) no_row
+
+  inside : k - 1 < 33
+  inside = omega (arith, L.size.limit, pos)
+
+  pub row_reduced : Reduced p 33 row.image
+  row_reduced = rw image_at at (h.reduced.0 (k - 1) inside)
+
+  pub row_monic : get_or row.image (k - 1) 0 ≢ 0 → Monic (k - 1) (poly p row.image)
+  row_monic ne =
+      rw image_at at (slot_filled (row_images rows) (k - 1) (h.stage.slots (k - 1)) (h.reduced.0 (k - 1) inside) (rw image_at ne))
+
+  pub preimage_reduced : Reduced p 33 row.preimage
+  preimage_reduced = rw preimage_at at (h.reduced.1 (k - 1) inside)
+
+  pub preimage_below : Below i (poly p row.preimage)
+  preimage_below = rw preimage_at at (h.stage.preimage (k - 1)).below
+
+  pub row_taken_off : {l : ℕ} {u' w' : List ℕ} → TakenOff p k u w row.image row.preimage u' w' l
+      → ReducedTo p h.of h.least h.most h.terms i (row_images rows) l u' w'
+  row_taken_off off = reduced_more (row_preimages rows) pos h.stage L (rw (image_at, preimage_at) off)

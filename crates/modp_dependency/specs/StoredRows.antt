@@ -1,9 +1,10 @@
--- Rows and their preimages, in an array of 33 slots each: `poly_at p rows k` is the polynomial of slot k; `ReducedRows p rows`, all entries are below p.
+-- Rows and their preimages, in an array of 33 slots: `row_images`, `row_preimages`, one of the two of each; `poly_at p rows k` is the polynomial of slot k;
+-- `ReducedRows p rows`, all entries are below p.
 -- Proves when a slot is free, and that no row is stored at first. Assumes nothing.
-use Rattle.std.specs.Prelude.{◌≡◌, List, [], ◌≢◌, ℕ, ◌<◌, get_or, replicate}
+use Rattle.std.specs.Prelude.{◌≡◌, List, [], ◌≢◌, ℕ, ◌<◌, get_or, map, replicate}
 use Rattle.std.proofs.Common.{sym, ◌∙◌, ap, ⊎_elim, zero-le}
 use Rattle.std.proofs.lemmas.List.{get_or-replicate}
-use Rattle.std.proofs.Math.ListN.{get_or-eq_default}
+use Rattle.std.proofs.Math.ListN.{get_or-eq_default, get_or-map}
 use Rattle.algebra.specs.Numbers.{lt_or_le}
 use Rattle.algebra.specs.Residues.{residue, residue_zero}
 use Rattle.algebra.specs.PolynomialRing.{𝟎}
@@ -15,6 +16,23 @@ use Rattle.arrays.specs.Represents.{zeros}
 use Rattle.arrays.specs.SameEntries.{zero_above}
 use Rattle.frobenius.specs.Span.{Slot}
 use Rattle.frobenius.specs.RowReduction.{Stage, stage_none}
+use Rattle.modp_dependency.specs.declared.Row.{Row}
+
+abbrev pub row_images : List Row → List (List ℕ)
+row_images rows = map (λ r. r.image) rows
+
+abbrev pub row_preimages : List Row → List (List ℕ)
+row_preimages rows = map (λ r. r.preimage) rows
+
+-- what is read past the last slot
+abbrev pub no_row : Row
+no_row = record { image = []; preimage = [] }
+
+pub image_at : (rows : List Row) (k : ℕ) → get_or (row_images rows) k [] ≡ (get_or rows k no_row).image
+image_at rows k = get_or-map (λ r. r.image) rows k no_row
+
+pub preimage_at : (rows : List Row) (k : ℕ) → get_or (row_preimages rows) k [] ≡ (get_or rows k no_row).preimage
+preimage_at rows k = get_or-map (λ r. r.preimage) rows k no_row
 
 -- for rows, preimages and the images given; past the last slot, 0
 abbrev pub poly_at : (p : ℕ) → List (List ℕ) → ℕ → ℤ[x]/ p

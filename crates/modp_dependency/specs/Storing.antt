@@ -1,9 +1,10 @@
 -- A row put into its slot: `MonicRow p u w k u' w'`, u' and w' are u and w times the constant that makes the coefficient k of u 1, so u' is monic where k is
 -- the degree of u; `Stored`, slot k holds such a row, and the others what they held.
 -- Proves the first of what is added to a free slot, and that the stage of a search goes on with the second. Assumes nothing.
-use Rattle.std.specs.Prelude.{◌≡◌, List, [], ◌≢◌, ℕ, suc, ◌<◌, ◌≤◌, ◌*◌, ◌%◌, length, get_or, set}
-use Rattle.std.proofs.Common.{sym, ◌∙◌, ap, subst₂, length-set, get_or-set_same, get_or-set_other}
+use Rattle.std.specs.Prelude.{◌≡◌, List, [], ◌≢◌, ℕ, suc, ◌<◌, ◌≤◌, ◌*◌, ◌%◌, length, get_or, map, set}
+use Rattle.std.proofs.Common.{sym, ◌∙◌, ap, length-set, get_or-set_same, get_or-set_other}
 use Rattle.std.proofs.Math.Decide.{ℕ_discrete}
+use Rattle.std.proofs.Math.ListN.{length-map}
 use Rattle.algebra.specs.Residues.{ℤ/, residue, Residues, residue_inverse}
 use Rattle.algebra.specs.PolynomialRing.{◌·◌, 𝟎, constant}
 use Rattle.algebra.specs.Degree.{Below}
@@ -15,7 +16,8 @@ use Rattle.frobenius.proofs.LeastDependency.{stage_more}
 use Rattle.modular.specs.InPlace.{Added}
 use Rattle.modular.specs.Multiples.{multiple_represented}
 use Rattle.modular.proofs.AddMultiple.{multiple_added_to}
-use Rattle.modp_dependency.specs.StoredRows.{poly_at, ReducedRows}
+use Rattle.modp_dependency.specs.declared.Row.{Row}
+use Rattle.modp_dependency.specs.StoredRows.{poly_at, ReducedRows, row_images, row_preimages, no_row, image_at, preimage_at}
 
 pub record MonicRow (p : ℕ) (u w : List ℕ) (k : ℕ) (u' w' : List ℕ) : Type 0 where
   pub scale : ℤ/ p
@@ -29,14 +31,17 @@ pub record Stored (p : ℕ) (rows preimages : List (List ℕ)) (u w : List ℕ) 
   pub image : (j : ℕ) → j ≢ k → get_or rows' j [] ≡ get_or rows j []
   pub preimage : (j : ℕ) → j ≢ k → get_or preimages' j [] ≡ get_or preimages j []
 
-pub row_stored : {p : ℕ} {rows preimages : List (List ℕ)} {u w : List ℕ} {k : ℕ} {u' w' : List ℕ} → k < length rows → k < length preimages
-    → MonicRow p u w k u' w' → Stored p rows preimages u w k (set rows k u') (set preimages k w')
-row_stored {p} {rows} {preimages} {u} {w} {k} {u'} {w'} l n h = record {
-  row = subst₂ (MonicRow p u w k) (sym (get_or-set_same rows k u' [] l)) (sym (get_or-set_same preimages k w' [] n)) h;
-  slots = (length-set rows k u', length-set preimages k w');
-  image = λ j ne. get_or-set_other rows k j u' [] ne;
-  preimage = λ j ne. get_or-set_other preimages k j w' [] ne;
+pub row_stored : {p : ℕ} (rows : List Row) {u w : List ℕ} {k : ℕ} {r : Row} → k < length rows → MonicRow p u w k r.image r.preimage
+    → Stored p (row_images rows) (row_preimages rows) u w k (row_images (set rows k r)) (row_preimages (set rows k r))
+row_stored {p} rows {u} {w} {k} {r} l h = record {
+  row = rw (image_at, preimage_at, get_or-set_same rows k r no_row l) h;
+  slots = (same (λ x. x.image), same (λ x. x.preimage));
+  image = λ j ne. image_at (set rows k r) j ∙ ap (λ x. x.image) (get_or-set_other rows k j r no_row ne) ∙ sym (image_at rows j);
+  preimage = λ j ne. preimage_at (set rows k r) j ∙ ap (λ x. x.preimage) (get_or-set_other rows k j r no_row ne) ∙ sym (preimage_at rows j);
 }
+  where
+    same : (f : Row → List ℕ) → length (map f (set rows k r)) ≡ length (map f rows)
+    same f = length-map (set rows k r) f ∙ length-set rows k r ∙ sym (length-map rows f)
 
 -- c is the inverse of the leading coefficient, and the slot holds r and s
 pub monic_row : {p : ℕ} → Prime p → {u w r s : List ℕ} {k : ℕ} (c : ℕ) {u' w' : List ℕ} → get_or u k 0 * c % p ≡ 1 → Represents p r 𝟎 → Represents p s 𝟎

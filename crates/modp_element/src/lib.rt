@@ -15,15 +15,8 @@ ghost use Rattle.modp_element.specs.Images.{PowerImages};
 ghost use Rattle.modp_element.specs.Elements.{ElementFound, Known, ForFactor};
 
 use arrays::{Coefs, monomial, size};
-use modp_dependency::{Found, least_dependency};
+use modp_dependency::least_dependency;
 use quotients::{power, product_modulo, remainder, times_power_of_x};
-
-// A splitting element, where it is known.
-#[derive(Clone, Copy)]
-pub struct Element {
-    pub known: bool,
-    pub v: Coefs,
-}
 
 // x^p modulo q, by p shifts or by squarings. A product takes as long as some 2·d shifts, and this power as some four products.
 fn power_of_x(q: Coefs, d: usize, p: u16) -> Coefs
@@ -77,48 +70,42 @@ fn images(q: Coefs, d: usize, p: u16) -> [Coefs; 33]
     }
     let y = power_of_x(q, d, p);
     let mut power = y;
-    let mut i: usize = 1;
-    while i < d {
+    for i in 1..d {
         r[i] = less_power(power, i, p);
-        let v = next_power(power, y, q, d, p);
-        power = v;
-        i += 1;
+        let next = next_power(power, y, q, d, p);
+        power = next;
     }
     r
 }
 
-// A v that is not constant, of lower degree than q, with v^p = v modulo q, where there is one.
-fn splitting_element(q: Coefs, d: usize, p: u16) -> Found
+// A v that is not constant, of lower degree than q, with v^p = v modulo q, if there is one.
+fn splitting_element(q: Coefs, d: usize, p: u16) -> Option<Coefs>
     requires { Prime p × (0 < d) × (d < 33) × Monic d (poly p q) × Reduced p 33 q }
     ensures { ElementFound p d q result }
 {
     let t = images(q, d, p);
-    least_dependency(&t, 1, d, d, p)
+    let found = least_dependency(&t, 1, d, d, p)?;
+    Some(found.v)
 }
 
-// A splitting element of q: the one at hand, if it is known, or else one that is looked for. The degree that is given with it says nothing.
-pub fn element_of(q: Coefs, d: usize, e: Element, p: u16) -> Found
-    requires { Prime p × (0 < d) × (d < 33) × Monic d (poly p q) × Reduced p 33 q × Known p d (poly p q) e }
+// A splitting element of q, if there is one: the one at hand, if it is known, or else one that is looked for.
+pub fn element_of(q: Coefs, d: usize, known: Option<Coefs>, p: u16) -> Option<Coefs>
+    requires { Prime p × (0 < d) × (d < 33) × Monic d (poly p q) × Reduced p 33 q × Known p d (poly p q) known }
     ensures { ElementFound p d q result }
 {
-    let v = e.v;
-    if e.known {
-        return Found {
-            found: true,
-            degree: d,
-            v: v,
-        };
+    match known {
+        Some(v) => Some(v),
+        None => splitting_element(q, d, p),
     }
-    splitting_element(q, d, p)
 }
 
-// What an element v of q, of degree d, is for a factor b of q, of degree j: a splitting element, unless v is constant modulo b. What is called
-// known is an element; that one is known where it could be is not promised, since only time rests on it.
-pub fn element_for(v: Coefs, d: usize, b: Coefs, j: usize, p: u16) -> Element
+// What an element v of q, of degree d, is for a factor b of q, of degree j: a splitting element, unless v is constant modulo b. What is given is an
+// element; that one is given where it could be is not promised, since only time rests on it.
+pub fn element_for(v: Coefs, d: usize, b: Coefs, j: usize, p: u16) -> Option<Coefs>
     requires { (d < 33) × (j < 33) × Reduced p 33 v × Below d (poly p v) × Monic j (poly p b) × Reduced p 33 b }
     ensures { ForFactor p d v j b result }
 {
     let r = remainder(v, d, b, j, p);
-    let s = size(r);
-    Element { known: 1 < s, v: r }
+    let splits = 1 < size(r);
+    if splits { Some(r) } else { None }
 }

@@ -15,7 +15,7 @@ ghost use Rattle.modp_euclid.specs.CommonDivisors.{GcdOf, CofactorOf};
 
 use arrays::{Coefs, size_below};
 use modular::add_by;
-use residues::{inverse, reciprocal, times};
+use residues::{Modulus, inverse, times};
 
 // unit·a, which is monic.
 #[derive(Clone, Copy)]
@@ -46,10 +46,7 @@ fn monic_multiple(a: Coefs, e: usize, p: u16) -> MonicMultiple
 {
     let unit = inverse(a[e], p);
     let array = modular::multiple(unit, a, e + 1, p);
-    MonicMultiple {
-        array: array,
-        unit: unit,
-    }
+    MonicMultiple { array, unit }
 }
 
 // a modulo g in place, where a has s terms and g, of degree e, any leading coefficient: its multiples take the highest term of a off, turn by turn. Gives the
@@ -59,16 +56,13 @@ fn take_off(a: &mut [u16], s: usize, g: &[u16], e: usize, p: u16) -> usize
     ensures { TakenOff p a.old g.now e a.new result }
 {
     let unit = inverse(g[e], p);
-    let w = reciprocal(p);
-    let mut i = s;
-    while e < i {
-        let top = i - 1;
+    let modulus = Modulus::new(p);
+    for top in (e..s).rev() {
         let k = top - e;
         let c = times(a[top], unit, p);
         if c != 0 {
-            add_by(&mut a[k..], p - c, g, e + 1, p, w);
+            add_by(&mut a[k..], p - c, g, e + 1, modulus);
         }
-        i = top;
     }
     size_below(a, e)
 }
@@ -90,17 +84,14 @@ fn take_row_off(
         (record { remainder = g.now; cofactor = v.now }) (record { remainder = a.new; cofactor = u.new }) result }
 {
     let unit = inverse(g[e], p);
-    let w = reciprocal(p);
-    let mut i = s;
-    while e < i {
-        let high = i - 1;
+    let modulus = Modulus::new(p);
+    for high in (e..s).rev() {
         let k = high - e;
         let q = times(a[high], unit, p);
         if q != 0 {
-            add_by(&mut a[k..], p - q, g, e + 1, p, w);
-            add_by(&mut u[k..], p - q, v, t, p, w);
+            add_by(&mut a[k..], p - q, g, e + 1, modulus);
+            add_by(&mut u[k..], p - q, v, t, modulus);
         }
-        i = high;
     }
     size_below(a, e)
 }
@@ -119,20 +110,14 @@ pub fn common_divisor(a: Coefs, b: Coefs, d: usize, p: u16) -> Greatest
         s = take_off(&mut x, s, &y, r - 1, p);
         if s == 0 {
             let m = monic_multiple(y, r - 1, p);
-            let g = m.array;
-            return Greatest {
-                gcd: g,
-                degree: r - 1,
-            };
+            let gcd = m.array;
+            return Greatest { gcd, degree: r - 1 };
         }
         r = take_off(&mut y, r, &x, s - 1, p);
     }
     let n = monic_multiple(x, s - 1, p);
-    let h = n.array;
-    Greatest {
-        gcd: h,
-        degree: s - 1,
-    }
+    let gcd = n.array;
+    Greatest { gcd, degree: s - 1 }
 }
 
 // The row of a and its cofactor u made monic, where a is of degree e and u has t terms.
@@ -142,9 +127,9 @@ fn monic_row(a: Coefs, u: Coefs, e: usize, t: usize, p: u16) -> CommonDivisor
 {
     let m = monic_multiple(a, e, p);
     let v = modular::multiple(m.unit, u, t, p);
-    let f = m.array;
+    let gcd = m.array;
     CommonDivisor {
-        gcd: f,
+        gcd,
         degree: e,
         cofactor: v,
     }

@@ -1,7 +1,7 @@
 -- Factoring Q modulo p: `Factoring p Q Ps a u`, Q is the product of the powers in Ps, in the order of item 3, and of a to the u, and a is coprime to their
 -- bases; `FactoredBy`, the same of a `Factored`, where a has no roots.
 -- Proves how it begins, that it goes on where a base is divided out of a and where a is a p-th power, and what it says at the end. Assumes nothing.
-use Rattle.std.specs.Prelude.{◌≡◌, List, [], map, ◌⊎◌, ◌≢◌, ℕ, ◌≤◌, ◌+◌, ◌*◌}
+use Rattle.std.specs.Prelude.{◌≡◌, List, [], map, ◌⊎◌, ◌≢◌, ℕ, ◌≤◌, ◌+◌, ◌*◌, length}
 use Rattle.std.proofs.Common.{sym, ◌∙◌, ap, ap₂, subst, ⊎_elim, arith}
 use Rattle.specification.specs.Polynomials.{degree}
 use Rattle.lists.specs.Members.{All}
@@ -37,9 +37,8 @@ use Rattle.factorisation.specs.MemberProducts.{inserted_product}
 use Rattle.frobenius.specs.NoRoots.{NoRoots}
 use Rattle.items.specs.ItemOrder.{item_3, one_before}
 use Rattle.modp_factors.specs.declared.Power.{Power}
-use Rattle.modp_factors.specs.declared.Powers.{Powers}
 use Rattle.modp_factors.specs.declared.Factored.{Factored}
-use Rattle.modp_factors.specs.Factors.{held_powers, power_poly, PowerBefore, PowerHeld, FactorsOf}
+use Rattle.modp_factors.specs.Factors.{Powers, held_powers, power_poly, PowerBefore, PowerHeld, FactorsOf}
 
 -- a base and what is left have no divisor in common
 abbrev Apart : {p : ℕ} → ℤ[x]/ p → Power → Type 0
@@ -130,7 +129,7 @@ module _ {p : ℕ} (prime : Prime p) where
     }
 
   -- nothing is left
-  factoring_done : {Q a : ℤ[x]/ p} {r : Powers} {u : ℕ} → Factoring p Q (held_powers r) a u → r.count ≤ 32 → Monic 0 a → FactorsOf p Q r
+  factoring_done : {Q a : ℤ[x]/ p} {r : Powers} {u : ℕ} → Factoring p Q (held_powers r) a u → length (held_powers r) ≤ 32 → Monic 0 a → FactorsOf p Q r
   factoring_done {a = a} {r} {u} F few m = record {
     few = few;
     held = F.held;
@@ -146,7 +145,7 @@ pub record FactoredBy (p : ℕ) (Q : ℤ[x]/ p) (u : ℕ) (r : Factored) : Type 
   pub reduced : Reduced p 33 r.rest
   pub monic : Monic r.degree (poly p r.rest)
   pub no_roots : NoRoots p (poly p r.rest)
-  pub room : r.powers.count + r.degree ≤ 32
+  pub room : length (held_powers r.powers) + r.degree ≤ 32
   pub unit : 1 ≤ u
   pub small : u * r.degree ≤ 32
 

@@ -1,6 +1,6 @@
 -- The powers of irreducible polynomials that multiply to Q modulo p, in arrays: `PowerHeld`, one of them; `FactorsOf p Q r`, r holds them all, in the order of
 -- item 3. Assumes nothing.
-use Rattle.std.specs.Prelude.{◌≡◌, List, [], map, ℕ, ◌≤◌, take}
+use Rattle.std.specs.Prelude.{◌≡◌, List, [], map, ℕ, ◌≤◌, length}
 use Rattle.specification.specs.Items1to3.{Before}
 use Rattle.lists.specs.Members.{All}
 use Rattle.lists.specs.InOrder.{InOrder}
@@ -10,11 +10,14 @@ use Rattle.arrays.specs.Listed.{listed}
 use Rattle.arrays.specs.Held.{MonicArray}
 use Rattle.factorisation.specs.Irreducible.{Irreducible}
 use Rattle.modp_factors.specs.declared.Power.{Power}
-use Rattle.modp_factors.specs.declared.Powers.{Powers}
+use Rattle.arrayvec.specs.ArrayVec.{ArrayVec}
 
--- the first `count` of the array
+-- the powers found, as the vector that holds them
+abbrev pub Powers : Type 0
+Powers = ArrayVec Power
+
 abbrev pub held_powers : Powers → List Power
-held_powers r = take r.count r.powers
+held_powers r = r.items
 
 -- the base, to its exponent
 abbrev pub power_poly : (p : ℕ) → Power → ℤ[x]/ p
@@ -31,7 +34,7 @@ pub record PowerHeld (p : ℕ) (x : Power) : Type 0 where
   pub positive : 1 ≤ x.exponent
 
 pub record FactorsOf (p : ℕ) (Q : ℤ[x]/ p) (r : Powers) : Type 0 where
-  pub few : r.count ≤ 32
+  pub few : length (held_powers r) ≤ 32
   pub held : All (PowerHeld p) (held_powers r)
   pub in_order : InOrder PowerBefore (held_powers r)
   pub multiplies : product (𝓩[x]/ p) (map (power_poly p) (held_powers r)) ≡ Q

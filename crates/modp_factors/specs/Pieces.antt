@@ -2,9 +2,8 @@
 -- `State`, the powers found and a stack of pieces that are coprime to one another; `work` measures what is left to do.
 -- Proves that such a divisor is a piece, how the state begins, that it goes on with less work where the top piece is cut or divided out, and what it says at
 -- the end. Assumes nothing.
-use Rattle.std.specs.Prelude.{◌≡◌, refl, true, false, List, [], ◌∷◌, ◌⊎◌, ℕ, suc, ◌+◌, ◌-◌, ◌≤◌, ◌<◌, ◌*◌, length}
+use Rattle.std.specs.Prelude.{◌≡◌, refl, Option, None, MatchOption, List, [], ◌∷◌, ◌⊎◌, ℕ, suc, ◌+◌, ◌-◌, ◌≤◌, ◌<◌, ◌*◌, length}
 use Rattle.std.proofs.Common.{◌∙◌, ⊎_elim, arith}
-use Rattle.std.proofs.lemmas.Bool.{false≢true}
 use mathlib.Core.List.Memᴰ.{head as here}
 use Rattle.std.proofs.Math.Logic.{inl, inr}
 use Rattle.lists.specs.Members.{All, all_cons, all_tail}
@@ -19,7 +18,6 @@ use Rattle.factorisation.specs.SquareFree.{SquareFree, squarefree_divisor}
 use Rattle.modp_element.specs.Elements.{Known}
 use Rattle.modp_factors.specs.declared.Factored.{Factored}
 use Rattle.modp_factors.specs.declared.Piece.{Piece}
-use Rattle.modp_factors.specs.declared.Cut.{Cut}
 use Rattle.modp_factors.specs.Factoring.{FactoredBy}
 
 -- the polynomial of a piece
@@ -38,10 +36,10 @@ pub record PieceHeld (p : ℕ) (a : ℤ[x]/ p) (x : Piece) : Type 0 where
   pub squarefree : SquareFree (piece_of p x)
 
 -- a divisor without square factors is a piece, of which no element is known
-pub divisor_held : {p : ℕ} {a : ℤ[x]/ p} {z v : List ℕ} {e : ℕ} → MonicArray p e z → 0 < e → ◌∣◌ (𝓩[x]/ p) (poly p z) a → SquareFree (poly p z)
-    → PieceHeld p a (record { coefs = z; degree = e; element = record { known = false; v = v } })
+pub divisor_held : {p : ℕ} {a : ℤ[x]/ p} {z : List ℕ} {e : ℕ} → MonicArray p e z → 0 < e → ◌∣◌ (𝓩[x]/ p) (poly p z) a → SquareFree (poly p z)
+    → PieceHeld p a (record { coefs = z; degree = e; element = None })
 divisor_held m l d s = record {
-  whole = record { array = m; positive = l; known = record { reduced = λ y. absurd (false≢true y); splits = λ y. absurd (false≢true y) } };
+  whole = record { array = m; positive = l; known = tt };
   divides = d;
   squarefree = s;
 }
@@ -54,9 +52,8 @@ pub record TwoPieces (p : ℕ) (x y z : Piece) : Type 0 where
   pub coprime : Coprime (𝓩[x]/ p) (piece_of p y) (piece_of p z)
   pub multiplies : piece_of p y · piece_of p z ≡ piece_of p x
 
-pub record CutOf (p : ℕ) (x : Piece) (r : Cut) : Type 0 where
-  pub two : r.cut ≡ true → TwoPieces p x r.first r.second
-  pub none : r.cut ≡ false → Irreducible (piece_of p x)
+abbrev pub CutOf : (p : ℕ) → Piece → Option (Piece × Piece) → Type 0
+CutOf p x r = MatchOption r (Irreducible (piece_of p x)) (λ c. TwoPieces p x c.0 c.1)
 
 -- g was divided out of what f leaves, and put among its powers
 pub record BaseTaken (p u : ℕ) (f : Factored) (g : ℤ[x]/ p) (r : Factored) : Type 0 where

@@ -1,7 +1,7 @@
 -- The constants c for which v − c may have a factor in common with Q: `Vanishing p q v r`, r holds a polynomial m with m(v) = 0 modulo Q; `Candidates p q v
 -- tries`, an entry that is not 0 rules its constant out.
 -- Proves the first of a dependency of the powers of v, and the second of the values of such an m, and of zeros. Assumes nothing.
-use Rattle.std.specs.Prelude.{◌≡◌, true, List, ◌≢◌, ℕ, suc, ◌<◌, ◌≤◌, get_or, replicate}
+use Rattle.std.specs.Prelude.{List, Option, Some, None, IfSome, ◌≢◌, ℕ, suc, ◌<◌, ◌≤◌, get_or, replicate}
 use Rattle.std.proofs.Common.{sym, ◌∙◌, arith}
 use Rattle.algebra.specs.Divisibility.{Coprime, pow}
 use Rattle.algebra.specs.Residues.{residue, Residues, residue_zero}
@@ -13,12 +13,12 @@ use Rattle.algebra.specs.ListShapes.{get_d_zeros}
 use Rattle.arrays.specs.SameEntries.{same_number}
 use Rattle.frobenius.specs.LinearMaps.{kernel_divides}
 use Rattle.frobenius.specs.ValuesOfElements.{VanishesAt, value_coprime}
-use Rattle.modp_dependency.specs.declared.Found.{Found}
+use Rattle.modp_dependency.specs.declared.Dependency.{Dependency}
 use Rattle.modp_dependency.specs.Dependency.{DependencyFound}
 use Rattle.modp_dependency.specs.RemainderImages.{RemainderImages, images_remainders}
 use Rattle.modp_roots.specs.Values.{value_at, ValuesOf}
 
-pub record Vanishing (p : ℕ) (q v : List ℕ) (r : Found) : Type 0 where
+pub record Vanishing (p : ℕ) (q v : List ℕ) (r : Dependency) : Type 0 where
   pub reduced : Reduced p 33 r.v
   pub fits : r.degree < 33
   pub below : Below (suc r.degree) (poly p r.v)
@@ -28,16 +28,18 @@ abbrev pub Candidates : (p : ℕ) → (q v tries : List ℕ) → Type 0
 Candidates p q v tries = (c : ℕ) → c < p → get_or tries c 0 ≢ 0 → Coprime (𝓩[x]/ p) (poly p q) (poly p v +ᴿ -ᴿ constant (residue p c))
 
 -- a dependency of the powers
-pub vanishing_found : {p d : ℕ} {q v : List ℕ} {images : List (List ℕ)} {count : ℕ} {r : Found} → Monic d (poly p q) → count ≤ 33
-    → RemainderImages p q d (pow (𝓩[x]/ p) (poly p v)) count images → DependencyFound p images 0 count r → r.found ≡ true → Vanishing p q v r
-vanishing_found {count = count} {r} m l h a e = record {
-  reduced = (a.found e).reduced;
-  fits = omega (arith, (a.found e).within);
-  below = (a.found e).least.monic.below;
+pub vanishing_found : {p d : ℕ} {q : List ℕ} (v : List ℕ) {images : List (List ℕ)} {count : ℕ} → Monic d (poly p q) → count ≤ 33
+    → RemainderImages p q d (pow (𝓩[x]/ p) (poly p v)) count images → (r : Option Dependency) → DependencyFound p images 0 count r
+    → IfSome r (λ m. Vanishing p q v m)
+vanishing_found v m l h None a = tt
+vanishing_found v {count = count} m l h (Some r) a = record {
+  reduced = a.reduced;
+  fits = omega (arith, a.within);
+  below = a.least.monic.below;
   vanishes = record {
     terms = count;
-    below = below_up (a.found e).within (a.found e).least.monic.below;
-    divides = kernel_divides m (images_remainders h) (poly _ r.v) (a.found e).least.kernel;
+    below = below_up a.within a.least.monic.below;
+    divides = kernel_divides m (images_remainders h) (poly _ r.v) a.least.kernel;
   };
 }
 
@@ -45,7 +47,7 @@ pub all_candidates : (p : ℕ) (q v : List ℕ) → Candidates p q v (replicate 
 all_candidates p q v c l ne = absurd (ne (get_d_zeros 256 c))
 
 -- the values of m
-pub value_candidates : {p : ℕ} {q v : List ℕ} {r : Found} {tries : List ℕ} → Prime p → Vanishing p q v r → ValuesOf p (poly p r.v) tries
+pub value_candidates : {p : ℕ} {q v : List ℕ} {r : Dependency} {tries : List ℕ} → Prime p → Vanishing p q v r → ValuesOf p (poly p r.v) tries
     → Candidates p q v tries
 value_candidates {p} {v = v} {r} P h values c l ne =
     let (e, unit) = (residue_field p P).inverse (value_at p c (poly p r.v)) nonzero in

@@ -3,7 +3,7 @@
 // entry point of the library.
 #![tactic(auto)]
 
-ghost use Rattle.std.specs.Prelude.{◌≡◌, true, ◌<◌, ◌≤◌};
+ghost use Rattle.std.specs.Prelude.{IfSome, ◌<◌, ◌≤◌};
 ghost use Rattle.algebra.specs.Divisibility.{pow};
 ghost use Rattle.algebra.specs.Residues.{residue};
 ghost use Rattle.algebra.specs.PolynomialRing.{◌+ᴿ◌, -ᴿ◌, constant};
@@ -15,7 +15,7 @@ ghost use Rattle.modp_halves.specs.Candidates.{Vanishing, Candidates};
 
 use arrays::{Coefs, monomial};
 use division::divide;
-use modp_dependency::{Found, least_dependency};
+use modp_dependency::{Dependency, least_dependency};
 use modp_euclid::common_divisor;
 use modp_roots::values;
 use quotients::product_modulo;
@@ -48,20 +48,18 @@ fn powers(q: Coefs, d: usize, v: Coefs, count: usize, p: u16) -> [Coefs; 33]
 {
     let mut power = monomial(0);
     let mut r = [power; 33];
-    let mut i: usize = 1;
-    while i < count {
+    for i in 1..count {
         let next = product_modulo(power, v, q, d, p);
         r[i] = next;
         power = next;
-        i += 1;
     }
     r
 }
 
 // A polynomial m of lower degree than `count` with m(v) = 0 modulo Q, where there is one: a dependency of the powers of v.
-fn vanishing(q: Coefs, d: usize, v: Coefs, count: usize, p: u16) -> Found
+fn vanishing(q: Coefs, d: usize, v: Coefs, count: usize, p: u16) -> Option<Dependency>
     requires { Halvable p q d v × (0 < count) × (count ≤ 33) }
-    ensures { result.found ≡ true → Vanishing p q v result }
+    ensures { IfSome result (λ m. Vanishing p q v m) }
 {
     let t = powers(q, d, v, count, p);
     least_dependency(&t, 0, count, d, p)
@@ -78,17 +76,14 @@ fn candidates(q: Coefs, d: usize, v: Coefs, p: u16) -> [u16; 256]
     if p < FEW_VALUES_FROM {
         return all;
     }
-    let m = vanishing(q, d, v, 4, p);
-    if m.found {
-        let y = m.v;
-        return values(y, m.degree + 1, p);
-    }
-    let l = vanishing(q, d, v, d / 2 + 1, p);
-    if l.found {
-        let z = l.v;
-        return values(z, l.degree + 1, p);
-    }
-    all
+    let found = match vanishing(q, d, v, 4, p) {
+        Some(m) => Some(m),
+        None => vanishing(q, d, v, d / 2 + 1, p),
+    };
+    let Some(m) = found else {
+        return all;
+    };
+    values(m.v, m.degree + 1, p)
 }
 
 // Q cut in two by its splitting element v: one of the v - c has a factor in common with Q, so that the loop does not run out.
@@ -97,23 +92,22 @@ pub fn halve(q: Coefs, d: usize, v: Coefs, p: u16) -> Halves
     ensures { HalvesOf p q d result.first result.degree result.second }
 {
     let tries = candidates(q, d, v, p);
-    let mut c: u16 = 0;
-    while c < p {
-        if tries[c as usize] == 0 {
+    for c in 0..p {
+        let is_candidate = tries[c as usize] == 0;
+        if is_candidate {
             let w = less_constant(v, c, p);
             let g = common_divisor(w, q, d, p);
             if 0 < g.degree {
-                let a = g.gcd;
-                let t = divide(q, d + 1, a, g.degree, p);
-                let b = t.quotient;
+                let first = g.gcd;
+                let t = divide(q, d + 1, first, g.degree, p);
+                let second = t.quotient;
                 return Halves {
-                    first: a,
+                    first,
                     degree: g.degree,
-                    second: b,
+                    second,
                 };
             }
         }
-        c += 1;
     }
     Halves {
         first: q,

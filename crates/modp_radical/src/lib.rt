@@ -15,6 +15,7 @@ ghost use Rattle.frobenius.specs.Derivatives.{derivative as derivativeOf};
 ghost use Rattle.modp_radical.specs.Radicals.{DivisorOf, RadicalOf};
 
 use arrays::Coefs;
+use residues::Modulus;
 
 // A monic polynomial of the degree given: the p-th root, or a divisor.
 #[derive(Clone, Copy)]
@@ -29,12 +30,10 @@ fn derivative(a: Coefs, d: usize, p: u16) -> Coefs
     requires { (p < 256) × (d < 33) × Reduced p 33 a × Below (suc d) (poly p a) }
     ensures { Represents p result (derivativeOf (poly p a)) }
 {
-    let w = 65535 / p;
+    let modulus = Modulus::new(p);
     let mut r = [0u16; 33];
-    let mut k: usize = 0;
-    while k < d {
-        r[k] = residues::reduce_narrow(p, w, (k as u16 + 1) * a[k + 1]);
-        k += 1;
+    for k in 0..d {
+        r[k] = modulus.reduce_narrow((k as u16 + 1) * a[k + 1]);
     }
     r
 }
@@ -46,12 +45,8 @@ fn root(a: Coefs, d: usize, p: u16) -> Coefs
 {
     let step = p as usize;
     let mut r = [0u16; 33];
-    let mut i: usize = 0;
-    let mut k: usize = 0;
-    while k <= d {
-        r[i] = a[k];
-        i += 1;
-        k += step;
+    for i in 0..d / step + 1 {
+        r[i] = a[i * step];
     }
     r
 }

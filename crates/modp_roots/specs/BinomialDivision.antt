@@ -1,11 +1,14 @@
 -- Division by x^k − c, in place: `BinomialDivided p k c a w`, the quotient of a stands in w from k on, and the remainder below k; `BinomialSteps`, the
 -- loop of `divide_binomial`; `MovedDown`, the entries from k on moved down; `PowerOf` and `LargestPower`, the powers of p.
 -- Proves that the loops end so, and that (x − c)^k is divided out where the remainder is 0 and k is a power of p. Assumes nothing.
-use Rattle.std.specs.Prelude.{◌≡◌, refl, List, ℕ, zero, suc, ◌≤◌, ◌<◌, ◌-◌, ◌%◌, ◌/◌, ◌+◌, ◌*◌, ◌^◌, length, get_or, set, take, drop, replicate}
-use Rattle.std.proofs.Common.{sym, ◌∙◌, ap, ap₂, ⊎_elim, zero-le, mod-lt, add_comm, one-mul, pow-suc, mul-div_cancel, arith, length-set, get_or-set_same, get_or-set_other, get_or-drop}
+use Rattle.std.specs.Prelude.{◌≡◌, refl, List, ℕ, zero, suc, ◌≤◌, ◌<◌, ◌-◌, ◌%◌, ◌/◌, ◌+◌, ◌*◌, ◌^◌, length, get_or, set, take, drop, replicate, ◌++◌, ◌⊎◌}
+use Rattle.std.proofs.Common.{sym, ◌∙◌, ap, ap₂, inl, inr, ⊎_elim, zero-le, mod-lt, add_comm, one-mul, pow-suc, mul-div_cancel, arith, length-set, get_or-set_same, get_or-set_other, get_or-drop}
 use Rattle.std.proofs.Math.Decide.{ℕ_discrete}
 use Rattle.std.proofs.Math.Nat.{pow-zero, pow-le-pow_right}
 use Rattle.std.proofs.lemmas.List.{length-replicate}
+use Rattle.std.proofs.Math.ListN.{get_or-append}
+use Rattle.std.proofs.Math.Seq.{get_or-append_right}
+use Rattle.std.proofs.lemmas.List.{take_all, length-drop, length-append}
 use Rattle.lists.specs.Entries.{Replaced}
 use Rattle.lists.specs.Places.{from_end}
 use Rattle.algebra.specs.Numbers.{lt_or_le}
@@ -142,8 +145,32 @@ pub record MovedDown (k : ℕ) (a r : List ℕ) : Type 0 where
   pub len : length r ≡ 33
   pub entries : (j : ℕ) → get_or r j 0 ≡ get_or a (j + k) 0
 
+-- the entries from k on, and zeros behind them
+pub moved_copy : {k : ℕ} {a q : List ℕ} → length a ≡ 33 → k < 33 → q ≡ take (33 - k) (drop k a) → MovedDown k a (q ++ drop (33 - k) (replicate 33 0))
+moved_copy {k} {a} {q} len l copied = record {
+  len = omega (arith, length-append q zeros, few, length-drop {A = ℕ} (33 - k) (replicate 33 0), length-replicate {A = ℕ} 33 0);
+  entries = λ j. at j (lt_or_le j (33 - k));
+}
+  where
+    zeros : List ℕ
+    zeros = drop (33 - k) (replicate 33 0)
+
+    is : q ≡ drop k a
+    is = copied ∙ take_all (33 - k) (drop k a) (omega (arith, length-drop k a, len))
+
+    few : length q ≡ 33 - k
+    few = ap length is ∙ length-drop k a ∙ ap (λ (n : ℕ). n - k) len
+
+    at : (j : ℕ) → (j < 33 - k) ⊎ (33 - k ≤ j) → get_or (q ++ zeros) j 0 ≡ get_or a (j + k) 0
+    at j (inl u) =
+        get_or-append q zeros 0 j (omega (arith, few)) ∙ ap (λ (r : List ℕ). get_or r j 0) is ∙ get_or-drop k a j 0
+        ∙ ap (λ (t : ℕ). get_or a t 0) (add_comm k j)
+    at j (inr u) =
+        get_or-append_right q zeros j 0 (omega (arith, few)) ∙ get_or-drop (33 - k) (replicate 33 0) (j - length q) 0
+        ∙ get_d_zeros 33 (33 - k + (j - length q)) ∙ sym (from_end 0 a 33 (omega (arith, len)) (j + k) (omega arith))
+
 module _ {k : ℕ} {a : List ℕ} where
-  -- the loop has passed all entries from k on
+  -- a loop has passed all entries from k on
   pub moved_done : {r : List ℕ} {i : ℕ} → length a ≡ 33 → 33 - k ≤ i → Replaced 0 (λ j. get_or a (j + k) 0) (replicate 33 0) 0 r i → MovedDown k a r
   moved_done {r} {i} len l R = record {
     len = R.len ∙ length-replicate {A = ℕ} 33 0;

@@ -15,7 +15,7 @@ ghost use Rattle.modp_roots.specs.BinomialDivision.{PowerOf, LargestPower, Binom
 ghost use Rattle.modp_roots.specs.DividedOut.{DividedOut, Dividing};
 
 use arrays::Coefs;
-use residues::reduce_narrow;
+use residues::Modulus;
 
 // What is left of a polynomial, its degree, and how often a divisor was divided out.
 #[derive(Clone, Copy)]
@@ -25,16 +25,13 @@ pub struct Rest {
     pub times: usize,
 }
 
-// One step of Horner's rule at every residue: the value r[c] becomes y + r[c]·c modulo p, where w is (2^16 - 1) / p. The sums have 16 bits, of which a
-// machine takes eight at a time.
-fn horner_step(r: &mut [u16], y: u16, end: usize, p: u16, w: u16)
-    requires { (p < 256) × (w ≡ 65535 / p) × (y < p) × (end ≤ 256) × (end ≤ length r.old) × Within p r.old }
-    ensures { HornerStep p y end r.old r.new }
+// One step of Horner's rule at every residue: the value r[c] becomes y + r[c]·c modulo p. The sums have 16 bits, of which a machine takes eight at a time.
+fn horner_step(r: &mut [u16], y: u16, end: usize, p: Modulus)
+    requires { (p.n < 256) × (y < p.n) × (end ≤ 256) × (end ≤ length r.old) × Within p.n r.old }
+    ensures { HornerStep p.n y end r.old r.new }
 {
-    let mut c: usize = 0;
-    while c < end {
-        r[c] = reduce_narrow(p, w, y + r[c] * (c as u16));
-        c += 1;
+    for c in 0..end {
+        r[c] = p.reduce_narrow(y + r[c] * (c as u16));
     }
 }
 
@@ -43,13 +40,11 @@ pub fn values(a: Coefs, s: usize, p: u16) -> [u16; 256]
     requires { Prime p × (p < 256) × (s ≤ 33) × Reduced p 33 a × Below s (poly p a) }
     ensures { ValuesOf p (poly p a) result }
 {
-    let w = 65535 / p;
+    let modulus = Modulus::new(p);
     let end = (p as usize + 7) / 8 * 8;
     let mut r = [0u16; 256];
-    let mut i = s;
-    while 0 < i {
-        i -= 1;
-        horner_step(&mut r, a[i], end, p, w);
+    for i in (0..s).rev() {
+        horner_step(&mut r, a[i], end, modulus);
     }
     r
 }
@@ -60,8 +55,8 @@ fn divide_linear(a: &mut [u16], s: usize, c: u16, p: u16) -> u16
     requires { (p < 256) × (c < p) × (s ≤ length a.old) × Within p a.old × Below s (poly p a.old) }
     ensures { LinearDivided p c a.old a.new result }
 {
-    let w = 65535 / p;
-    let square = reduce_narrow(p, w, c * c);
+    let modulus = Modulus::new(p);
+    let square = modulus.reduce_narrow(c * c);
     let mut b: u16 = 0;
     let mut i = s;
     while 1 < i {
@@ -69,16 +64,16 @@ fn divide_linear(a: &mut [u16], s: usize, c: u16, p: u16) -> u16
         let y = a[i + 1];
         let z = a[i];
         a[i + 1] = b;
-        let t = reduce_narrow(p, w, z + y * c);
-        a[i] = reduce_narrow(p, w, y + b * c);
-        b = reduce_narrow(p, w, t + b * square);
+        let t = modulus.reduce_narrow(z + y * c);
+        a[i] = modulus.reduce_narrow(y + b * c);
+        b = modulus.reduce_narrow(t + b * square);
     }
     if i == 0 {
         return b;
     }
     let y = a[0];
     a[0] = b;
-    reduce_narrow(p, w, y + b * c)
+    modulus.reduce_narrow(y + b * c)
 }
 
 // The largest power of p that is at most n.
@@ -99,11 +94,9 @@ fn divide_binomial(a: &mut [u16], n: usize, k: usize, c: u16, p: u16)
     requires { (p < 256) × (c < p) × (0 < k) × (k ≤ n) × (n < length a.old) × Within p a.old × Below (suc n) (poly p a.old) }
     ensures { BinomialDivided p k c a.old a.new }
 {
-    let w = 65535 / p;
-    let mut i = n - k + 1;
-    while 0 < i {
-        i -= 1;
-        a[i] = reduce_narrow(p, w, a[i] + c * a[i + k]);
+    let modulus = Modulus::new(p);
+    for i in (0..n - k + 1).rev() {
+        a[i] = modulus.reduce_narrow(a[i] + c * a[i + k]);
     }
 }
 
@@ -112,13 +105,8 @@ fn move_down(a: Coefs, k: usize) -> Coefs
     requires { k < 33 }
     ensures { MovedDown k a result }
 {
-    let end = 33 - k;
     let mut r = [0u16; 33];
-    let mut i: usize = 0;
-    while i < end {
-        r[i] = a[i + k];
-        i += 1;
-    }
+    r[..33 - k].copy_from_slice(&a[k..]);
     r
 }
 

@@ -3,7 +3,7 @@
 use mathlib.Core.Path.{◌≡◌, sym, ◌∙◌, ap}
 use mathlib.Core.List.{List}
 use mathlib.Core.Logic.{⊎_elim}
-use Prim.Native.Nat.{ℕ, ◌≤◌, ◌<◌, ◌-◌, ◌/◌, ◌%◌, ◌+◌, ◌*◌}
+use Prim.Native.Nat.{ℕ, ◌≤◌, ◌<◌, ◌-◌, ◌%◌, ◌+◌, ◌*◌}
 use native.Mathlib.Nat.{mod-lt}
 use native.Mathlib.Omega.{arith}
 use lib.ListN.{length, get_or}
@@ -79,11 +79,11 @@ multiple_added n a c b k {m} {r} ha hb room w = record {
         (part_entry 0 k (33 - k) a fits (j - k) (omega arith) ∙ ap (λ (t : ℕ). get_or a t 0) (let e : k + (j - k) ≡ j = omega arith in e))
 
 -- the same of an array that is lent, whose length is known by what it holds: `add_by` may add c·b to the part from k on
-pub lent_part : {n : ℕ} (k : ℕ) {m c w : ℕ} (a b : List ℕ) → Reduced n 33 a → Reduced n 33 b → Below m (poly n b) → k + m ≤ 33 → c ≤ n → w ≡ 4294967295 / n
+pub lent_part : {n : ℕ} (k : ℕ) {m c : ℕ} (a b : List ℕ) → Reduced n 33 a → Reduced n 33 b → Below m (poly n b) → k + m ≤ 33 → c ≤ n
     → (c ≤ n) × (m ≤ length (mid_of k (length a - k) a)) × (length (mid_of k (length a - k) a) ≤ length b) × Within n (mid_of k (length a - k) a)
-    × Within n b × ZeroFrom m b × (w ≡ 4294967295 / n)
-lent_part k {m} a b ha hb few room low v =
-    (low, omega (arith, long, ha.len), omega (arith, long, ha.len, hb.len), rw ha.len (part_within k a ha (omega arith)), hb.low, zero_above hb few, v)
+    × Within n b × ZeroFrom m b
+lent_part k {m} a b ha hb few room low =
+    (low, omega (arith, long, ha.len), omega (arith, long, ha.len, hb.len), rw ha.len (part_within k a ha (omega arith)), hb.low, zero_above hb few)
   where
     long : length (mid_of k (length a - k) a) ≡ length a - k
     long = part_length 0 k (length a - k) a (omega (arith, ha.len))

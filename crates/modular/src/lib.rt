@@ -13,7 +13,7 @@ ghost use Rattle.arrays.specs.Represents.{Represents, Within, ZeroFrom};
 ghost use Rattle.modular.specs.InPlace.{Added};
 
 use arrays::Coefs;
-use residues::{add_product, quotient_narrow, reciprocal, reduce_narrow};
+use residues::Modulus;
 
 // m, or the next multiple of 8, but `most` at most. Below 8 there are no whole steps of eight.
 fn padded(m: usize, most: usize) -> usize
@@ -34,17 +34,15 @@ fn padded(m: usize, most: usize) -> usize
     }
 }
 
-// r + c·b in place, where b has m terms and w is the reciprocal of n. Past its terms b is 0, so that the loop may run on over them.
-pub fn add_by(r: &mut [u16], c: u16, b: &[u16], m: usize, n: u16, w: u32)
-    requires { (c ≤ n) × (m ≤ length r.old) × (length r.old ≤ length b.now) × Within n r.old × Within n b.now × ZeroFrom m b.now
-        × (w ≡ 4294967295 / n) }
-    ensures { Added n r.old c b.now r.new }
+// r + c·b in place, where b has m terms. Past its terms b is 0, so that the loop may run on over them.
+pub fn add_by(r: &mut [u16], c: u16, b: &[u16], m: usize, modulus: Modulus)
+    requires { (c ≤ modulus.n) × (m ≤ length r.old) × (length r.old ≤ length b.now) × Within modulus.n r.old × Within modulus.n b.now
+        × ZeroFrom m b.now }
+    ensures { Added modulus.n r.old c b.now r.new }
 {
     let end = padded(m, r.len());
-    let mut j: usize = 0;
-    while j < end {
-        r[j] = add_product(r[j], c, b[j], n, w);
-        j += 1;
+    for j in 0..end {
+        r[j] = modulus.add_product(r[j], c, b[j]);
     }
 }
 
@@ -59,8 +57,7 @@ pub fn add_in_place(r: &mut [u16], c: u16, b: &[u16], m: usize, n: u16)
     if c == n {
         return;
     }
-    let w = reciprocal(n);
-    add_by(r, c, b, m, n, w);
+    add_by(r, c, b, m, Modulus::new(n));
 }
 
 // a + c·x^k·b, where b has m terms.
@@ -106,15 +103,13 @@ pub fn product(a: Coefs, s: usize, b: Coefs, t: usize, n: u16) -> Coefs
     requires { Reduced n 33 a × Reduced n 33 b × (s ≤ 33) × (s + t ≤ 34) × Below s (poly n a) × Below t (poly n b) }
     ensures { Represents n result (poly n a · poly n b) }
 {
-    let w = reciprocal(n);
+    let modulus = Modulus::new(n);
     let mut r = [0u16; 33];
-    let mut i: usize = 0;
-    while i < s {
+    for i in 0..s {
         let c = a[i];
         if c != 0 {
-            add_by(&mut r[i..], c, &b, t, n, w);
+            add_by(&mut r[i..], c, &b, t, modulus);
         }
-        i += 1;
     }
     r
 }
@@ -124,12 +119,10 @@ pub fn modulo(a: Coefs, n: u16) -> Coefs
     requires { 0 < n }
     ensures { Represents n result (poly n a) }
 {
-    let w = 65535 / n;
+    let modulus = Modulus::new(n);
     let mut r = a;
-    let mut i: usize = 0;
-    while i < 33 {
-        r[i] = reduce_narrow(n, w, a[i]);
-        i += 1;
+    for i in 0..33 {
+        r[i] = modulus.reduce_narrow(a[i]);
     }
     r
 }
@@ -139,12 +132,10 @@ pub fn over(a: Coefs, p: u16) -> Coefs
     requires { 0 < p }
     ensures { result ≡ map (λ v. v / p) a }
 {
-    let w = 65535 / p;
+    let modulus = Modulus::new(p);
     let mut q = a;
-    let mut i: usize = 0;
-    while i < 33 {
-        q[i] = quotient_narrow(p, w, a[i]);
-        i += 1;
+    for i in 0..33 {
+        q[i] = modulus.quotient_narrow(a[i]);
     }
     q
 }

@@ -90,8 +90,5 @@ pub fn cut_off(f: Coefs, e: usize, b: Coefs, n: usize, p: u16) -> Cut
     let y = s.rest;
     let part = add_multiple(b, p, t, 0, n, m);
     let rest = add_multiple(q, m - p, y, 0, e - n, m);
-    Cut {
-        part: part,
-        rest: rest,
-    }
+    Cut { part, rest }
 }

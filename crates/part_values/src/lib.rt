@@ -70,19 +70,15 @@ pub fn highest(h: Coefs, base: Coefs, d: usize, m: usize, p: u16) -> Multiplicit
 {
     let most = m - 1;
     let mut w = h;
-    let mut k: usize = 0;
-    while k < most {
+    for k in 0..most {
         let v = divide(w, (m - k) * d, base, d, p);
-        let rest = v.remainder;
-        let terms = size_below(&rest, d);
+        let terms = size_below(&v.remainder, d);
         if terms != 0 {
-            return Multiplicity { m1: k, w: w };
+            return Multiplicity { m1: k, w };
         }
-        let q = v.quotient;
-        w = q;
-        k += 1;
+        w = v.quotient;
     }
-    Multiplicity { m1: k, w: w }
+    Multiplicity { m1: most, w }
 }
 
 // "g^(m−m1) + pw", where k is m − m1, g is monic of degree d and w of lower degree than g^k.

@@ -4,7 +4,7 @@ use mathlib.Core.Path.{◌≡◌, refl, sym, ◌∙◌, ap, ap₂, subst}
 use mathlib.Core.Bool.{Bool, true, false}
 use mathlib.Core.List.{List, [], ◌∷◌}
 use mathlib.Core.Logic.{◌≢◌}
-use Prim.Native.Nat.{ℕ, suc, ◌≤◌, ◌<◌, ◌-◌, ◌%◌, zero-le, ◌*◌}
+use Prim.Native.Nat.{ℕ, suc, ◌≤◌, ◌<◌, ◌-◌, ◌%◌, ◌*◌}
 use native.Mathlib.Nat.{one-mul}
 use native.Mathlib.Omega.{arith}
 use borrow.Author.Tests.{eqb-false, leb-false}
@@ -18,10 +18,9 @@ use Rattle.lists.specs.Tests.{neither}
 use Rattle.algebra.specs.Numbers.{square_large}
 use Rattle.algebra.specs.Divisibility.{pow}
 use Rattle.algebra.specs.PolynomialRing.{𝟎}
-use Rattle.algebra.specs.Degree.{Below, below_𝟎}
+use Rattle.algebra.specs.Degree.{Below}
 use Rattle.algebra.specs.CoefficientLists.{poly, poly_pow, 𝓩[x]/}
-use Rattle.algebra.specs.ListDivision.{poly_zeros}
-use Rattle.arrays.specs.Represents.{Represents, zeros}
+use Rattle.arrays.specs.Represents.{Represents}
 use Rattle.arrays.specs.Listed.{listed, listed_is}
 use Rattle.arrays.specs.Held.{Held, held_below, poly_held}
 use Rattle.items.specs.MonicLists.{MonicList, monic_poly}
@@ -35,8 +34,8 @@ use Rattle.part_values.specs.ArrayValues.{IsHBar, AreM1AndW, IsU}
 use Rattle.part_verdict.proofs.Returns.{returns_basic, returns_power, returns_solid, returns_split, returns_root}
 use Rattle.part_verdict.specs.declared.Verdict.TheVariants.{Basic, Solid, Power}
 use Rattle.part_verdict.specs.declared.Part.{Part}
-use Rattle.part_verdict.specs.AsPart.{as_part, none, one_factor, two_factors}
-use Rattle.part_verdict.specs.PartHeld.{FactorHeld, PartHeld}
+use Rattle.part_verdict.specs.AsPart.{as_part, one_factor, two_factors}
+use Rattle.part_verdict.specs.PartHeld.{PartHeld}
 use Rattle.part_verdict.specs.PartFound.{PartFound}
 
 -- r is the part that items 4 to 9 give
@@ -82,9 +81,6 @@ module _ {p : ℕ} {base : List ℕ} {d m : ℕ} {part : List ℕ} (given : Give
   pos : 0 < p ²
   pos = omega (arith, square_large p (large given))
 
-  none_held : FactorHeld (p ²) none
-  none_held = held_below zero-le (zeros (p ²) pos).reduced (rw (poly_zeros (p ²) 33) (below_𝟎 1))
-
   module _ {g : List ℕ} (chosen : Chosen p base d g) where
     -- the list of g
     abbrev γ : List ℕ
@@ -98,7 +94,7 @@ module _ {p : ℕ} {base : List ℕ} {d m : ℕ} {part : List ℕ} (given : Give
     pub split_basic : m ≡ 1 → SplitByItems p base g d m part (one_factor base d m Basic part (m * d) 1)
     split_basic e = record {
       is = returned (returns_basic p G γ m Q e);
-      held = record { base = given.base_held; first = given.part_held; second = none_held };
+      held = record { base = given.base_held; first = given.part_held; second = tt };
     }
 
     module _ (repeated : m ≢ 1) {h : List ℕ} (H : IsHBar p g d m part h) where
@@ -106,7 +102,7 @@ module _ {p : ℕ} {base : List ℕ} {d m : ℕ} {part : List ℕ} (given : Give
       pub split_power : poly p h ≡ 𝟎 → SplitByItems p base g d m part (one_factor base d m Power g d m)
       split_power e = record {
         is = returned (returns_power p G γ m Q repeated (is_zero_h (large given) given.over chosen.lift (sym H.is.is ∙ e)));
-        held = record { base = given.base_held; first = chosen.held; second = none_held };
+        held = record { base = given.base_held; first = chosen.held; second = tt };
       }
 
       module _ (nonzero : poly p h ≢ 𝟎) {k : ℕ} {w : List ℕ} (W : AreM1AndW p base g d m part k w) where
@@ -117,7 +113,7 @@ module _ {p : ℕ} {base : List ℕ} {d m : ℕ} {part : List ℕ} (given : Give
         pub split_solid : k ≡ 0 → SplitByItems p base g d m part (one_factor base d m Solid part (m * d) 1)
         split_solid e = record {
           is = returned (returns_solid p G γ m Q repeated not_zero (sym W.m1_is ∙ e));
-          held = record { base = given.base_held; first = given.part_held; second = none_held };
+          held = record { base = given.base_held; first = given.part_held; second = tt };
         }
 
         degrees : (m - parts.m1 p G γ m Q) * spec.degree G ≡ (m - k) * d
@@ -174,7 +170,7 @@ module _ {p : ℕ} {base : List ℕ} {d m : ℕ} {part : List ℕ} (given : Give
                 record {
                   is = ap (λ f. part_with (parts.split_into parts.power (parts.factor f m ∷ []))) list
                       ∙ returned (returns_root p G γ m Q repeated not_zero divides_m1 (asked false t));
-                  held = record { base = given.base_held; first = held; second = none_held };
+                  held = record { base = given.base_held; first = held; second = tt };
                 }
 
   -- with the g of item 5

@@ -1,6 +1,6 @@
 -- The code's structs as the records of the specification (`as_part`), and the parts that the code makes of its arrays (`one_factor`, `two_factors`).
 -- Assumes nothing.
-use Rattle.std.specs.Prelude.{List, [], ◌∷◌, ℕ, replicate}
+use Rattle.std.specs.Prelude.{List, [], ◌∷◌, ℕ, Option, Some, None}
 use Rattle.specification.specs.Parts as parts
 use Rattle.arrays.specs.Listed.{listed}
 use Rattle.part_verdict.specs.declared.Verdict.{Verdict}
@@ -18,23 +18,17 @@ as_verdict (Split k) = parts.split k
 abbrev pub as_factor : Factor → parts.Factor
 as_factor q = record { poly = listed q.degree q.coefs; times = q.times }
 
--- the second factor counts where the verdict is split
-abbrev pub as_factors : Verdict → Factor → Factor → List parts.Factor
-as_factors Basic a b = as_factor a ∷ []
-as_factors Solid a b = as_factor a ∷ []
-as_factors Power a b = as_factor a ∷ []
-as_factors (Split k) a b = as_factor a ∷ as_factor b ∷ []
+-- the first factor, and the second if there is one
+abbrev pub as_factors : Factor → Option Factor → List parts.Factor
+as_factors a None = as_factor a ∷ []
+as_factors a (Some b) = as_factor a ∷ as_factor b ∷ []
 
 abbrev pub as_part : Part → parts.Part
 as_part a = record {
   base = listed a.degree a.base;
   exponent = a.exponent;
-  splitting = record { verdict = as_verdict a.verdict; factors = as_factors a.verdict a.first a.second };
+  splitting = record { verdict = as_verdict a.verdict; factors = as_factors a.first a.second };
 }
-
--- the factor in the place of a second one, where there is none
-abbrev pub none : Factor
-none = record { coefs = replicate 33 0; degree = 0; times = 0 }
 
 -- a part with one factor
 abbrev pub one_factor : List ℕ → ℕ → ℕ → Verdict → List ℕ → ℕ → ℕ → Part
@@ -44,7 +38,7 @@ one_factor base d m v q e t = record {
   exponent = m;
   verdict = v;
   first = record { coefs = q; degree = e; times = t };
-  second = none;
+  second = None;
 }
 
 -- item 9: g, k times, and q once
@@ -55,5 +49,5 @@ two_factors base g d m k q e = record {
   exponent = m;
   verdict = Split k;
   first = record { coefs = g; degree = d; times = k };
-  second = record { coefs = q; degree = e; times = 1 };
+  second = Some (record { coefs = q; degree = e; times = 1 });
 }

@@ -34,7 +34,7 @@ pub struct Factor {
     pub times: usize,
 }
 
-// "The verdict is held inside the part's record". `base` is G, `degree` its degree and `exponent` m. The second factor counts only where the verdict is split.
+// "The verdict is held inside the part's record". `base` is G, `degree` its degree and `exponent` m. A second factor is there where the verdict is split.
 #[derive(Clone, Copy)]
 pub struct Part {
     pub base: Coefs,
@@ -42,7 +42,7 @@ pub struct Part {
     pub exponent: usize,
     pub verdict: Verdict,
     pub first: Factor,
-    pub second: Factor,
+    pub second: Option<Factor>,
 }
 
 // A part over G^m with one factor: its coefficients, its degree, its times.
@@ -57,22 +57,17 @@ fn one_factor(
 ) -> Part
     ensures { result ≡ one_factor base d m verdict coefs degree times }
 {
-    let second = Factor {
-        coefs: [0u16; 33],
-        degree: 0,
-        times: 0,
-    };
     Part {
-        base: base,
+        base,
         degree: d,
         exponent: m,
-        verdict: verdict,
+        verdict,
         first: Factor {
-            coefs: coefs,
-            degree: degree,
-            times: times,
+            coefs,
+            degree,
+            times,
         },
-        second: second,
+        second: None,
     }
 }
 
@@ -89,7 +84,7 @@ fn two_factors(
     ensures { result ≡ two_factors base g d m m1 last degree }
 {
     Part {
-        base: base,
+        base,
         degree: d,
         exponent: m,
         verdict: Verdict::Split(m1),
@@ -98,11 +93,11 @@ fn two_factors(
             degree: d,
             times: m1,
         },
-        second: Factor {
+        second: Some(Factor {
             coefs: last,
-            degree: degree,
+            degree,
             times: 1,
-        },
+        }),
     }
 }
 

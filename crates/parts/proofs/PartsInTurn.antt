@@ -7,7 +7,7 @@ use Prim.Native.Nat.{ℕ, suc, ◌+◌, ◌<◌}
 use native.Mathlib.Numerals.{add-one}
 use native.Mathlib.Omega.{arith}
 use lib.ListN.{length, get_or, drop, length-map, get_or-map}
-use lib.Seq.{drop-cons, get_or-take, length-take-le}
+use lib.Seq.{drop-cons}
 use Rattle.specification.specs.Polynomials as spec
 use Rattle.specification.specs.Powers as powers
 use Rattle.specification.specs.Parts as parts
@@ -22,8 +22,7 @@ use Rattle.items.specs.PowersOnly.{any_order}
 use Rattle.items.specs.PrimaryHolds.{part_only_lem}
 use Rattle.items.proofs.Items1to3Hold.{powers_are}
 use Rattle.modp_factors.specs.declared.Power.{Power}
-use Rattle.modp_factors.specs.declared.Powers.{Powers}
-use Rattle.modp_factors.specs.Factors.{held_powers, PowerHeld, no_power}
+use Rattle.modp_factors.specs.Factors.{Powers, held_powers, PowerHeld, no_power}
 use Rattle.part_values.specs.Given.{Given}
 use Rattle.part_verdict.specs.declared.Part.{Part}
 use Rattle.part_verdict.specs.AsPart.{as_part}
@@ -52,28 +51,23 @@ pub record PartAt (p : ℕ) (f : List ℕ) (d i : ℕ) (part : Part) : Type 0 wh
   pub held : PartHeld p part
 
 module _ {p : ℕ} {f : List ℕ} {d : ℕ} {r : Powers} (F : PowersFound p f d r) where
-  long : length (held_powers r) ≡ r.count
-  long = length-take-le r.count r.powers F.room
-
   -- there are as many parts as powers
-  pub parts_count : length (the_parts p f d) ≡ r.count
+  pub parts_count : length (the_parts p f d) ≡ length (held_powers r)
   unfolding parts.parts_of
   parts_count =
       length-map (powers.powers p (listed d f)) (parts.part_of p (listed d f)) ∙ ap length (sym (left_powers F.left))
-      ∙ length-map (held_powers r) as_power ∙ long
+      ∙ length-map (held_powers r) as_power
 
   pub all_left : LeftAt p f d r 0 f d
   all_left = record { left = F.left; divides = divides_refl (𝓩[x]/ (p ²)) (poly (p ²) f) }
 
-  module _ {i : ℕ} (l : i < r.count) {rest : List ℕ} {e : ℕ} (w : LeftAt p f d r i rest e) where
+  module _ {i : ℕ} (l : i < length (held_powers r)) {rest : List ℕ} {e : ℕ} (w : LeftAt p f d r i rest e) where
     -- the next power
     abbrev x : Power
-    x = get_or r.powers i no_power
+    x = get_or (held_powers r) i no_power
 
     next : drop i (held_powers r) ≡ x ∷ drop (suc i) (held_powers r)
-    next =
-        drop-cons (held_powers r) i no_power (omega (arith, l, long))
-        ∙ ap (λ y. y ∷ drop (suc i) (held_powers r)) (get_or-take r.count r.powers i no_power l)
+    next = drop-cons (held_powers r) i no_power l
 
     first_left : Left p rest e (x ∷ drop (suc i) (held_powers r))
     first_left = subst (Left p rest e) next w.left
@@ -98,10 +92,9 @@ module _ {p : ℕ} {f : List ℕ} {d : ℕ} {r : Powers} (F : PowersFound p f d 
       power_there : get_or (powers.powers p (listed d f)) i (as_power no_power) ≡ P
       power_there =
           ap (λ L. get_or L i (as_power no_power)) (sym (left_powers F.left)) ∙ get_or-map as_power (held_powers r) i no_power
-          ∙ ap as_power (get_or-take r.count r.powers i no_power l)
 
       inside_powers : i < length (powers.powers p (listed d f))
-      inside_powers = omega (arith, l, long, length-map (held_powers r) as_power, ap length (left_powers F.left))
+      inside_powers = omega (arith, l, length-map (held_powers r) as_power, ap length (left_powers F.left))
 
       -- what was cut off divides f, so it is the primary part over the power
       part_divides : ◌∣◌ (𝓩[x]/ (p ²)) (poly (p ²) c.coefs) (poly (p ²) f)
@@ -130,11 +123,11 @@ module _ {p : ℕ} {f : List ℕ} {d : ℕ} {r : Powers} (F : PowersFound p f d 
         held = c.found.held;
       }
 
-      pub left_next : i + 1 < r.count → LeftAt p f d r (i + 1) t.rest t.degree
+      pub left_next : i + 1 < length (held_powers r) → LeftAt p f d r (i + 1) t.rest t.degree
       left_next m = subst (λ (k : ℕ). LeftAt p f d r k t.rest t.degree) (sym (add-one i)) (record {
         left = subst (Left p t.rest t.degree) (sym behind) (left_more (subst (λ L. Left p rest e (x ∷ L)) behind first_left) c);
         divides = divides_trans (𝓩[x]/ (p ²)) (poly (p ²) c.coefs, c.multiplies) w.divides;
       })
         where
           behind : drop (suc i) (held_powers r) ≡ get_or (held_powers r) (suc i) no_power ∷ drop (suc (suc i)) (held_powers r)
-          behind = drop-cons (held_powers r) (suc i) no_power (omega (arith, m, long, add-one i))
+          behind = drop-cons (held_powers r) (suc i) no_power (omega (arith, m, add-one i))

@@ -21,16 +21,14 @@ use Rattle.items.specs.Reductions.{monic_reduce}
 use Rattle.items.specs.ArrayLists.{square_list, bar_listed}
 use Rattle.items.proofs.Items1to3Hold.{items}
 use Rattle.modp_factors.specs.declared.Power.{Power}
-use Rattle.modp_factors.specs.declared.Powers.{Powers}
-use Rattle.modp_factors.specs.Factors.{held_powers, power_poly, PowerBefore}
+use Rattle.modp_factors.specs.Factors.{Powers, held_powers, power_poly, PowerBefore}
 use Rattle.part_values.specs.Given.{listed_irreducible}
 use Rattle.parts.specs.PowerParts.{power_base, as_power, base_list, power_listed}
 use Rattle.parts.specs.PowersLeft.{Left}
 
 -- all of f is left, and its bar is the product of the powers in r
 pub record PowersFound (p : ℕ) (f : List ℕ) (d : ℕ) (r : Powers) : Type 0 where
-  pub few : r.count ≤ 32
-  pub room : r.count ≤ length r.powers
+  pub few : length (held_powers r) ≤ 32
   pub left : Left p f d (held_powers r)
 
 in_order : (L : List Power) → InOrder PowerBefore L → items1to3.InOrder (map as_power L)

@@ -46,7 +46,7 @@ fn first_part(f: Coefs, e: usize, x: Power, p: u16) -> PartAndRest
     let rest = cut.rest;
     PartAndRest {
         part: split_part(part, base, x.degree, x.exponent, whole, p),
-        rest: rest,
+        rest,
         degree: e - n,
     }
 }
@@ -66,11 +66,12 @@ pub fn next_part(f: Coefs, e: usize, x: Power, p: u16) -> PartAndRest
     requires { (L : List Power) × Left p f e (x ∷ L) }
     ensures { FirstPart p f e x result }
 {
-    if x.exponent * x.degree == e {
+    let is_last = x.exponent * x.degree == e;
+    if is_last {
         let part = part_over(f, x, p);
         let one = monomial(0);
         return PartAndRest {
-            part: part,
+            part,
             rest: one,
             degree: 0,
         };

@@ -1,4 +1,5 @@
 pub mod Accepted
+pub mod Checks
 pub mod DivisionResult
 pub mod RecordLaws
 pub mod Results

@@ -1,18 +1,21 @@
 -- Padding of coefficient lists, as the specification's records have it.
--- Proves that it keeps the polynomial, how long it is, and that an array which represents a polynomial is the padding of its list.
+-- Proves that it keeps the polynomial, how long it is, that an array which represents a polynomial is the padding of its list, and that the records of one
+-- and x have the arrays of monomials.
 -- Assumes nothing.
-use mathlib.Core.Path.{◌≡◌, sym, ◌∙◌}
+use mathlib.Core.Path.{◌≡◌, sym, ◌∙◌, ap}
 use mathlib.Core.List.{List, ◌++◌}
 use mathlib.Core.Logic.{⊎_elim}
 use Prim.Native.Nat.{ℕ, ◌≤◌, ◌<◌}
 use native.Mathlib.Omega.{arith}
-use lib.ListN.{length, get_or, replicate, length-take, length-append, length-replicate, get_or-eq_default}
+use lib.ListN.{length, get_or, set, replicate, length-take, length-append, length-replicate, get_or-eq_default}
 use lib.Seq.{get_or-take}
-use Rattle.specification.specs.Records.{pad}
+use Rattle.specification.specs.Records.{pad, Result, result, prime_number, constant, one_of, x_of}
 use Rattle.algebra.specs.Numbers.{lt_or_le}
 use Rattle.algebra.specs.CoefficientLists.{ℤ[x]/, poly, same_list}
 use Rattle.lists.specs.Places.{read_padded}
 use Rattle.arrays.specs.Represents.{Represents}
+use Rattle.arrays.specs.Held.{same_array}
+use Rattle.arrays.specs.MonomialArray.{IsMonomial, monomial_set}
 use Rattle.arrays.specs.SameEntries.{same_poly}
 
 pub length_pad : (f : List ℕ) → length (pad f) ≡ 33
@@ -46,3 +49,21 @@ array_is {n} {r} {f} h l =
 -- and the padding is that polynomial
 pub pad_is : {n : ℕ} {f : List ℕ} {p : ℤ[x]/ n} → ListOf n f p → poly n (pad f) ≡ p
 pad_is {n} {f} l = poly_pad n f l.short ∙ l.is
+
+-- ---- arrays of monomials
+
+-- such an array is zeros with a 1 in them
+monomial_is : {i : ℕ} {f : List ℕ} → i < 33 → IsMonomial i f → f ≡ set (replicate 33 0) i 1
+monomial_is {i} l m = same_array m.shaped (monomial_set i l).shaped (m.is ∙ sym (monomial_set i l).is)
+
+abbrev fixed : ℕ → List ℕ → Result
+fixed p f = result (prime_number p) (record { prime = p; coefficients = f })
+
+module _ (p : ℕ) {f : List ℕ} {r : Result} where
+  pub one_is : IsMonomial 0 f → r ≡ fixed p f → r ≡ one_of p
+  unfolding constant pad
+  one_is m e = e ∙ ap (fixed p) (monomial_is (omega arith) m)
+
+  pub x_is : IsMonomial 1 f → r ≡ fixed p f → r ≡ x_of p
+  unfolding constant pad
+  x_is m e = e ∙ ap (fixed p) (monomial_is (omega arith) m)

@@ -1,1 +1,2 @@
 pub mod AsRecord
+pub mod Checked

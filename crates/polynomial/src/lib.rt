@@ -7,9 +7,12 @@ ghost use Rattle.std.specs.Prelude.{◌≡◌};
 ghost use Rattle.specification.specs.Limits.{◌²};
 ghost use Rattle.specification.specs.Records as records;
 ghost use Rattle.specification.specs.Polynomials as spec;
+ghost use Rattle.refusals.specs.Numbers.{number_of};
 ghost use Rattle.polynomial.specs.AsRecord.{as_record, as_result, as_division, accepted, refused_record, refused, divided, refused_division};
+ghost use Rattle.polynomial.specs.Checked.{checked};
 
-use arrays::Coefs;
+use arrays::{Coefs, monomial, size};
+use refusals::Refusal;
 
 // A polynomial record: a prime and 33 coefficients, constant first.
 #[derive(Clone, Copy)]
@@ -51,20 +54,18 @@ impl Poly {
         fixed(prime, [0u16; 33])
     }
 
+    #[tactic(auto, using(crate::proofs::RecordLaws::one_is))]
     pub fn one(prime: u8) -> Answer
         ensures { as_result result ≡ records.one_of prime }
     {
-        let mut coefs = [0u16; 33];
-        coefs[0] = 1;
-        fixed(prime, coefs)
+        fixed(prime, monomial(0))
     }
 
+    #[tactic(auto, using(crate::proofs::RecordLaws::x_is))]
     pub fn x(prime: u8) -> Answer
         ensures { as_result result ≡ records.x_of prime }
     {
-        let mut coefs = [0u16; 33];
-        coefs[1] = 1;
-        fixed(prime, coefs)
+        fixed(prime, monomial(1))
     }
 }
 
@@ -75,10 +76,7 @@ fn accept(prime: u8, coefs: Coefs) -> Answer
     Answer {
         number: 0,
         place: 0,
-        poly: Poly {
-            prime: prime,
-            coefs: coefs,
-        },
+        poly: Poly { prime, coefs },
     }
 }
 
@@ -92,15 +90,14 @@ fn refused_poly() -> Poly
     }
 }
 
-// A number with that polynomial.
-fn refuse(number: u8) -> Answer
-    ensures { as_result result ≡ refused number }
+// A refusal's number with that polynomial.
+fn refuse(why: Refusal) -> Answer
+    ensures { as_result result ≡ refused (number_of why) }
 {
-    let poly = refused_poly();
     Answer {
-        number: number,
+        number: why.into(),
         place: 0,
-        poly: poly,
+        poly: refused_poly(),
     }
 }
 
@@ -111,7 +108,7 @@ fn fixed(prime: u8, coefs: Coefs) -> Answer
     if primes::taken(prime) {
         accept(prime, coefs)
     } else {
-        refuse(10)
+        refuse(Refusal::NotProper)
     }
 }
 
@@ -119,40 +116,29 @@ fn fixed(prime: u8, coefs: Coefs) -> Answer
 pub fn proper(a: Poly) -> bool
     ensures { result ≡ records.proper (as_record a) }
 {
-    let coefs = a.coefs;
-    if primes::taken(a.prime) {
-        arrays::all_below(coefs, square(a.prime))
-    } else {
-        false
-    }
+    primes::taken(a.prime) && arrays::all_below(a.coefs, square(a.prime))
 }
 
-// 10: a record is not proper; 11: the primes differ; 0: neither.
-fn pair_number(a: Poly, b: Poly) -> u8
-    ensures { result ≡ records.pair_number (as_record a) (as_record b) }
+// Both records are proper, and of one prime.
+fn check_pair(a: Poly, b: Poly) -> Result<(), Refusal>
+    ensures { checked result ≡ records.pair_number (as_record a) (as_record b) }
 {
-    if proper(a) {
-        if proper(b) {
-            if a.prime == b.prime { 0 } else { 11 }
-        } else {
-            10
-        }
-    } else {
-        10
+    if !proper(a) || !proper(b) {
+        return Err(Refusal::NotProper);
     }
+    if a.prime != b.prime {
+        return Err(Refusal::PrimesDiffer);
+    }
+    Ok(())
 }
 
 // a + b.
 pub fn add(a: Poly, b: Poly) -> Answer
     ensures { as_result result ≡ records.sum (as_record a) (as_record b) }
 {
-    let number = pair_number(a, b);
-    if number == 0 {
-        let f = a.coefs;
-        let g = b.coefs;
-        accept(a.prime, modular::sum(f, g, square(a.prime)))
-    } else {
-        refuse(number)
+    match check_pair(a, b) {
+        Ok(()) => accept(a.prime, modular::sum(a.coefs, b.coefs, square(a.prime))),
+        Err(why) => refuse(why),
     }
 }
 
@@ -160,51 +146,42 @@ pub fn add(a: Poly, b: Poly) -> Answer
 pub fn sub(a: Poly, b: Poly) -> Answer
     ensures { as_result result ≡ records.difference (as_record a) (as_record b) }
 {
-    let number = pair_number(a, b);
-    if number == 0 {
-        let f = a.coefs;
-        let g = b.coefs;
-        accept(a.prime, modular::difference(f, g, square(a.prime)))
-    } else {
-        refuse(number)
+    match check_pair(a, b) {
+        Ok(()) => accept(
+            a.prime,
+            modular::difference(a.coefs, b.coefs, square(a.prime)),
+        ),
+        Err(why) => refuse(why),
     }
 }
 
-// The pair's number, or 12: neither factor is zero and their degrees add to more than 32.
-fn product_number(a: Poly, b: Poly) -> u8
-    ensures { result ≡ records.product_number (as_record a) (as_record b) }
+// The records are a pair, and one is zero or their degrees add to 32 or less.
+#[tactic(auto, using(crate::proofs::Checks::product_refused))]
+fn check_product(a: Poly, b: Poly) -> Result<(), Refusal>
+    ensures { checked result ≡ records.product_number (as_record a) (as_record b) }
 {
-    let f = a.coefs;
-    let g = b.coefs;
-    let s = arrays::size(f);
-    let t = arrays::size(g);
-    let number = pair_number(a, b);
-    if number == 0 {
-        if s == 0 {
-            return 0;
-        }
-        if t == 0 {
-            return 0;
-        }
-        if Poly::LIMIT < s - 1 + (t - 1) { 12 } else { 0 }
-    } else {
-        number
+    check_pair(a, b)?;
+    // A size is one more than the degree, and 0 for zero, so that a product with zero passes.
+    if Poly::LIMIT + 2 < size(a.coefs) + size(b.coefs) {
+        return Err(Refusal::ProductTooHigh);
     }
+    Ok(())
 }
 
 // a times b.
 pub fn mul(a: Poly, b: Poly) -> Answer
     ensures { as_result result ≡ records.product_of (as_record a) (as_record b) }
 {
-    let number = product_number(a, b);
-    if number == 0 {
-        let f = a.coefs;
-        let g = b.coefs;
-        let s = arrays::size(f);
-        let t = arrays::size(g);
-        accept(a.prime, modular::product(f, s, g, t, square(a.prime)))
-    } else {
-        refuse(number)
+    match check_product(a, b) {
+        Ok(()) => {
+            let s = size(a.coefs);
+            let t = size(b.coefs);
+            accept(
+                a.prime,
+                modular::product(a.coefs, s, b.coefs, t, square(a.prime)),
+            )
+        }
+        Err(why) => refuse(why),
     }
 }
 
@@ -212,21 +189,20 @@ pub fn mul(a: Poly, b: Poly) -> Answer
 pub fn leading(f: Coefs) -> u16
     ensures { result ≡ spec.leading (records.trim f) }
 {
-    let s = arrays::size(f);
+    let s = size(f);
     if s == 0 { 0 } else { f[s - 1] }
 }
 
-// The pair's number, or 13: the divisor is not monic.
-fn division_number(a: Poly, b: Poly) -> u8
-    ensures { result ≡ records.division_number (as_record a) (as_record b) }
+// The records are a pair, and the divisor is monic.
+#[tactic(auto, using(crate::proofs::Checks::division_refused, crate::proofs::Checks::not_monic, crate::proofs::Checks::is_division))]
+fn check_division(a: Poly, b: Poly) -> Result<(), Refusal>
+    ensures { checked result ≡ records.division_number (as_record a) (as_record b) }
 {
-    let g = b.coefs;
-    let number = pair_number(a, b);
-    if number == 0 {
-        if leading(g) == 1 { 0 } else { 13 }
-    } else {
-        number
+    check_pair(a, b)?;
+    if leading(b.coefs) != 1 {
+        return Err(Refusal::DivisorNotMonic);
     }
+    Ok(())
 }
 
 // Number 0 with a quotient and a remainder.
@@ -237,26 +213,25 @@ fn accept_division(prime: u8, quotient: Coefs, remainder: Coefs) -> Division
         number: 0,
         place: 0,
         quotient: Poly {
-            prime: prime,
+            prime,
             coefs: quotient,
         },
         remainder: Poly {
-            prime: prime,
+            prime,
             coefs: remainder,
         },
     }
 }
 
-// A number with the zero polynomial of prime 2 twice.
-fn refuse_division(number: u8) -> Division
-    ensures { as_division result ≡ refused_division number }
+// A refusal's number with the zero polynomial of prime 2 twice.
+fn refuse_division(why: Refusal) -> Division
+    ensures { as_division result ≡ refused_division (number_of why) }
 {
-    let poly = refused_poly();
     Division {
-        number: number,
+        number: why.into(),
         place: 0,
-        quotient: poly,
-        remainder: poly,
+        quotient: refused_poly(),
+        remainder: refused_poly(),
     }
 }
 
@@ -264,17 +239,13 @@ fn refuse_division(number: u8) -> Division
 pub fn divide(a: Poly, b: Poly) -> Division
     ensures { as_division result ≡ records.division (as_record a) (as_record b) }
 {
-    let number = division_number(a, b);
-    if number == 0 {
-        let f = a.coefs;
-        let g = b.coefs;
-        let s = arrays::size(f);
-        let t = arrays::size(g);
-        let d = division::divide(f, s, g, t - 1, square(a.prime));
-        let q = d.quotient;
-        let r = d.remainder;
-        accept_division(a.prime, q, r)
-    } else {
-        refuse_division(number)
+    match check_division(a, b) {
+        Ok(()) => {
+            let s = size(a.coefs);
+            let t = size(b.coefs);
+            let d = division::divide(a.coefs, s, b.coefs, t - 1, square(a.prime));
+            accept_division(a.prime, d.quotient, d.remainder)
+        }
+        Err(why) => refuse_division(why),
     }
 }

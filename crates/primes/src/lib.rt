@@ -11,23 +11,16 @@ const PRIMES: [u8; 54] = [
     197, 199, 211, 223, 227, 229, 233, 239, 241, 251,
 ];
 
-// The place of a number in the list; the list's length for a number that is not taken.
-pub fn place(prime: u8) -> usize
+// The place of a number in the list; none for a number that is not taken.
+pub fn place(prime: u8) -> Option<usize>
     ensures { Place prime result }
 {
-    let mut i: usize = 0;
-    while i < PRIMES.len() {
-        if prime == PRIMES[i] {
-            return i;
-        }
-        i += 1;
-    }
-    PRIMES.len()
+    PRIMES.iter().position(|&p| p == prime)
 }
 
 // The number is a taken prime.
 pub fn taken(prime: u8) -> bool
     ensures { result ≡ limits.taken prime }
 {
-    place(prime) < PRIMES.len()
+    place(prime).is_some()
 }

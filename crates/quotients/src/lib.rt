@@ -19,8 +19,7 @@ pub fn remainder(a: Coefs, s: usize, q: Coefs, d: usize, n: u16) -> Coefs
     requires { Reduced n 33 a × Reduced n 33 q × (s ≤ 33) × (d < 33) × Below s (poly n a) × Monic d (poly n q) }
     ensures { Remainder n q d result (poly n a) }
 {
-    let t = division::divide(a, s, q, d, n);
-    t.remainder
+    division::divide(a, s, q, d, n).remainder
 }
 
 // x·r in place, where r has d terms: each coefficient goes up one place.
@@ -28,11 +27,7 @@ fn move_up(r: &mut [u16], d: usize)
     requires { (d < length r.old) × ZeroFrom d r.old }
     ensures { MovedUp r.old r.new }
 {
-    let mut i = d;
-    while 0 < i {
-        r[i] = r[i - 1];
-        i -= 1;
-    }
+    r.copy_within(..d, 1);
     r[0] = 0;
 }
 
@@ -52,10 +47,8 @@ pub fn times_power_of_x(k: usize, a: Coefs, q: Coefs, d: usize, n: u16) -> Coefs
     ensures { Remainder n q d result (x^ k · poly n a) }
 {
     let mut r = a;
-    let mut i: usize = 0;
-    while i < k {
+    for _ in 0..k {
         shift(&mut r, &q, d, n);
-        i += 1;
     }
     r
 }
@@ -66,11 +59,9 @@ pub fn product_modulo(a: Coefs, b: Coefs, q: Coefs, d: usize, n: u16) -> Coefs
     ensures { Remainder n q d result (poly n a · poly n b) }
 {
     let mut r = [0u16; 33];
-    let mut i = arrays::size(a);
-    while 0 < i {
+    for i in (0..arrays::size(a)).rev() {
         shift(&mut r, &q, d, n);
-        modular::add_in_place(&mut r, a[i - 1], &b, d, n);
-        i -= 1;
+        modular::add_in_place(&mut r, a[i], &b, d, n);
     }
     r
 }

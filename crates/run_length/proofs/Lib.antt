@@ -1,7 +1,6 @@
 mod PowerOfOne
 mod MarkSum
 mod MarkTable
-mod MarkSearch
 mod MeetingSearch
 mod RowTable
 mod RowSum

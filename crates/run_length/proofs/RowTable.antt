@@ -1,9 +1,8 @@
 -- The loop of `rows_of`, which stores the rows x^i·y one after the other.
--- Proves how it begins, goes on and ends, and that the rows have d terms each. Assumes nothing.
-use mathlib.Core.Path.{◌≡◌, sym, ◌∙◌, ap, subst}
+-- Proves how it begins and goes on, and that the rows have d terms each. Assumes nothing.
+use mathlib.Core.Path.{◌≡◌, sym, ◌∙◌, ap}
 use mathlib.Core.List.{List}
 use Prim.Native.Nat.{ℕ, ◌≤◌, ◌<◌, ◌-◌, ◌+◌, ◌*◌}
-use native.Mathlib.Nat.{le_antisymm}
 use native.Mathlib.Decide.{ℕ_discrete}
 use native.Mathlib.Omega.{arith}
 use lib.ListN.{length, get_or}
@@ -45,9 +44,6 @@ module _ {n : ℕ} {q : List ℕ} {d : ℕ} {y : List ℕ} where
       at : (k : ℕ) → k < i + 1 → Dec (k ≡ i) → Remainder n q d (row s k) (x^ k · poly n y)
       at k u (yes e) = rw (e, here) r
       at k u (no ne) = rw (other k (omega (arith, ne))) (h.each k (omega (arith, ne)))
-
-  pub rows_done : {i : ℕ} {rows : List ℕ} → i ≤ d → d ≤ i → Rows n q d y i rows → Rows n q d y d rows
-  rows_done {rows = rows} l u h = subst (λ k. Rows n q d y k rows) (le_antisymm l u) h
 
   pub rows_small : {rows : List ℕ} → Rows n q d y d rows → SmallRows n d rows
   rows_small h = record { room = h.room; reduced = λ k l. (h.each k l).reduced; small = λ k l. (h.each k l).small }

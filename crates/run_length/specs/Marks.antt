@@ -1,7 +1,7 @@
 -- Marks of remainders: `marked w a`, a number that equal arrays share; `Marks`, the table holds the marks of x^0, x^1, .. modulo q; `LastWith`,
 -- where a mark stands last in it.
 -- Assumes nothing.
-use Rattle.std.specs.Prelude.{◌≡◌, List, ◌≢◌, ℕ, zero, suc, ◌≤◌, ◌<◌, ◌-◌, ◌%◌, ◌+◌, ◌*◌, length, get_or}
+use Rattle.std.specs.Prelude.{◌≡◌, List, ◌≢◌, ℕ, zero, suc, ◌≤◌, ◌<◌, ◌%◌, ◌+◌, ◌*◌, Option, MatchOption, length, get_or}
 use Rattle.algebra.specs.Monomials.{x^}
 use Rattle.quotients.specs.Remainder.{Remainder}
 
@@ -28,7 +28,11 @@ pub record NoneWith (table : List ℕ) (m «end» i : ℕ) : Type 0 where
   pub within : i ≤ «end»
   pub after : (k : ℕ) → i ≤ k → k < «end» → get_or table k 0 ≢ m
 
--- r is one more than the last place before `end` that holds m, or 0
-pub record LastWith (table : List ℕ) (m «end» r : ℕ) : Type 0 where
-  pub none : NoneWith table m «end» r
-  pub here : 0 < r → get_or table (r - 1) 0 ≡ m
+-- i is the last place before `end` that holds m
+pub record LastAt (table : List ℕ) (m «end» i : ℕ) : Type 0 where
+  pub none : NoneWith table m «end» (i + 1)
+  pub here : get_or table i 0 ≡ m
+
+-- r is that place, or there is none
+abbrev pub LastWith : List ℕ → ℕ → ℕ → Option ℕ → Type 0
+LastWith table m e r = MatchOption r (NoneWith table m e 0) (λ i. LastAt table m e i)

@@ -1,6 +1,6 @@
--- Where a great step g meets the small ones: `Meeting n q g r`, r is one more than the highest k below 1024 with x^k = g modulo q, or 0.
+-- Where a great step g meets the small ones: `Meeting n q g r`, r is the highest k below 1024 with x^k = g modulo q, or there is none.
 -- Assumes nothing.
-use Rattle.std.specs.Prelude.{List, ℕ, ◌≤◌, ◌<◌, ◌-◌}
+use Rattle.std.specs.Prelude.{List, ℕ, ◌≤◌, ◌<◌, ◌+◌, Option, MatchOption}
 use Rattle.algebra.specs.CoefficientLists.{poly, 𝓩[x]/}
 use Rattle.algebra.specs.Congruence.{Congruent}
 use Rattle.algebra.specs.Monomials.{x^}
@@ -15,6 +15,10 @@ pub record NoneFrom (n : ℕ) (q g : List ℕ) (i : ℕ) : Type 0 where
   pub within : i ≤ small_steps
   pub after : (k : ℕ) → i ≤ k → k < small_steps → ¬ IsPower n q g k
 
-pub record Meeting (n : ℕ) (q g : List ℕ) (r : ℕ) : Type 0 where
-  pub none : NoneFrom n q g r
-  pub here : 0 < r → IsPower n q g (r - 1)
+-- i is the highest small step that is g
+pub record MeetingAt (n : ℕ) (q g : List ℕ) (i : ℕ) : Type 0 where
+  pub none : NoneFrom n q g (i + 1)
+  pub here : IsPower n q g i
+
+abbrev pub Meeting : ℕ → List ℕ → List ℕ → Option ℕ → Type 0
+Meeting n q g r = MatchOption r (NoneFrom n q g 0) (λ i. MeetingAt n q g i)

@@ -36,22 +36,13 @@ const WEIGHTS: [u16; 33] = [
     46811, 54647, 39343, 56269, 48533, 61027, 43481,
 ];
 
-// A coefficient or a weight in 64 bits, with its bound.
-fn wide(x: u16) -> u64
-    ensures { (result ≡ x) × (result ≤ 65535) }
-{
-    x as u64
-}
-
 // A number that equal arrays share.
 fn mark(a: &[u16; 33], w: &[u16; 33]) -> u32
     ensures { result ≡ marked w.now a.now }
 {
     let mut s: u64 = 0;
-    let mut i: usize = 0;
-    while i < 33 {
-        s += wide(a[i]) * wide(w[i]);
-        i += 1;
+    for i in 0..33 {
+        s += a[i] as u64 * w[i] as u64;
     }
     (s % 4294967296) as u32
 }
@@ -62,46 +53,36 @@ fn small_steps(marks: &mut [u32], f: Coefs, d: usize, n: u16, w: &[u16; 33]) -> 
     ensures { Marks n f d w.now marks.new small_steps × Remainder n f d result (x^ small_steps) }
 {
     let mut r = monomial(0);
-    let mut i: usize = 0;
-    while i < SMALL {
+    for i in 0..SMALL {
         marks[i] = mark(&r, w);
         shift(&mut r, &f, d, n);
-        i += 1;
     }
     r
 }
 
-// One more than the last place before `end` that has the mark; 0 if there is none.
-fn last_with(marks: &[u32], m: u32, end: usize) -> usize
+// The last place before `end` that has the mark, if there is one.
+fn last_with(marks: &[u32], m: u32, end: usize) -> Option<usize>
     requires { «end» ≤ length marks.now }
     ensures { LastWith marks.now m «end» result }
 {
-    let mut i = end;
-    while 0 < i {
-        if marks[i - 1] == m {
-            return i;
-        }
-        i -= 1;
-    }
-    0
+    marks[..end].iter().rposition(|&k| k == m)
 }
 
-// One more than the highest small step that is g; 0 if there is none. Marks that agree by chance cost only time.
-fn meeting(marks: &[u32], g: Coefs, f: Coefs, d: usize, n: u16, w: &[u16; 33]) -> usize
+// The highest small step that is g, if there is one. Marks that agree by chance cost only time.
+fn meeting(marks: &[u32], g: Coefs, f: Coefs, d: usize, n: u16, w: &[u16; 33]) -> Option<usize>
     requires { (1 < n) × (0 < d) × MonicArray n d f × Marks n f d w.now marks.now small_steps × Reduced n 33 g × Below d (poly n g) }
     ensures { Meeting n f g result }
 {
     let m = mark(&g, w);
-    let mut i = last_with(marks, m, SMALL);
-    while 0 < i {
-        let start = monomial(0);
-        let r = times_power_of_x(i - 1, start, f, d, n);
+    let mut end = SMALL;
+    while let Some(i) = last_with(marks, m, end) {
+        let r = times_power_of_x(i, monomial(0), f, d, n);
         if equal(r, g) {
-            return i;
+            return Some(i);
         }
-        i = last_with(marks, m, i - 1);
+        end = i;
     }
-    0
+    None
 }
 
 // t becomes the 33 entries from k on.
@@ -109,12 +90,7 @@ fn store_row(rows: &mut [u16], k: usize, t: &[u16; 33])
     requires { k + 33 ≤ length rows.old }
     ensures { Replaced 0 (λ j. get_or t.now (j - k) 0) rows.old k rows.new (k + 33) }
 {
-    let next = k + 33;
-    let mut j = k;
-    while j < next {
-        rows[j] = t[j - k];
-        j += 1;
-    }
+    rows[k..k + 33].copy_from_slice(t);
 }
 
 // x^i·y modulo f for i below d, in rows of 33 entries: the map that takes g to g·y.
@@ -123,11 +99,9 @@ fn rows_of(rows: &mut [u16], y: Coefs, f: Coefs, d: usize, n: u16)
     ensures { Rows n f d y d rows.new }
 {
     let mut t = y;
-    let mut i: usize = 0;
-    while i < d {
+    for i in 0..d {
         store_row(rows, i * 33, &t);
         shift(&mut t, &f, d, n);
-        i += 1;
     }
 }
 
@@ -137,12 +111,9 @@ fn great_step(rows: &[u16], g: Coefs, d: usize, n: u16) -> Coefs
     ensures { GreatStep n d rows.now g result }
 {
     let mut r = [0u16; 33];
-    let mut i: usize = 0;
-    while i < d {
+    for i in 0..d {
         let k = i * 33;
-        let next = k + 33;
-        add_in_place(&mut r, g[i], &rows[k..next], d, n);
-        i += 1;
+        add_in_place(&mut r, g[i], &rows[k..k + 33], d, n);
     }
     r
 }
@@ -159,11 +130,9 @@ pub fn run_length(f: Coefs, d: usize, p: u16) -> u16
     let mut rows = [0u16; ROWS];
     rows_of(&mut rows, y, f, d, n);
     let mut g = y;
-    let mut j: usize = 1;
-    while j <= GREAT {
-        let i = meeting(&marks, g, f, d, n, &w);
-        if 0 < i {
-            let k = j * SMALL + 1 - i;
+    for j in 1..=GREAT {
+        if let Some(i) = meeting(&marks, g, f, d, n, &w) {
+            let k = j * SMALL - i;
             if k <= 65535 {
                 return k as u16;
             }
@@ -171,7 +140,6 @@ pub fn run_length(f: Coefs, d: usize, p: u16) -> u16
         }
         let v = great_step(&rows, g, d, n);
         g = v;
-        j += 1;
     }
     0
 }

@@ -10,7 +10,6 @@ use sheet_output::write_output;
 use splitter::AREA;
 use std::io;
 use std::io::{Read, Write};
-use streams::read_full;
 
 // Whether nothing failed: then the writer has got the sheet, or the refusal, of all that the reader had.
 fn run<R: Read, W: Write>(input: &mut R, out: &mut W) -> bool
@@ -18,13 +17,8 @@ fn run<R: Read, W: Write>(input: &mut R, out: &mut W) -> bool
 {
     // A line of more than 255 bytes is turned back as such, so that 256 decide (sheet_output, `sent_prefix`).
     let mut line = [0u8; 256];
-    let got = read_full(input, &mut line);
     let mut area = [0u8; AREA];
-    let count = write_output(&mut area, &line[..got.count]);
-    match out.write_all(&area[..count]) {
-        Ok(()) => !got.failed,
-        Err(_) => false,
-    }
+    streams::run(input, out, &mut line, &mut area, write_output)
 }
 
 // A failed read ends the input, and a failed write is passed over: the program ends as it does else.

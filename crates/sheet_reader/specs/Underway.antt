@@ -1,6 +1,6 @@
 -- The coefficient reader's loop: `Underway`, what is read of the part before a place where a coefficient command may come.
 -- Proves how the loop begins, what is due after each step of a turn, and that a turn with no fault leads to the next. Assumes nothing.
-use Rattle.std.specs.Prelude.{◌≡◌, Bool, true, false, List, ◌∷◌, ℕ, zero, suc, ◌+◌, ◌≤◌, ◌<◌, set, drop}
+use Rattle.std.specs.Prelude.{◌≡◌, Bool, true, false, List, ◌∷◌, ℕ, zero, suc, ◌+◌, ◌≤◌, ◌<◌, set, drop, Ok, Err}
 use Rattle.std.proofs.Common.{sym, ◌∙◌, ap, ap₂, subst, zero-le, add-one, arith}
 use Rattle.specification.specs.Limits.{◌²}
 use Rattle.specification.specs.Polynomials.{Poly, degree}
@@ -13,15 +13,12 @@ use Rattle.layouts.specs.ReaderLaws.{then_goes, next_goes, command_goes, Other}
 use Rattle.layouts.specs.CoefficientsRead.{none_left}
 use Rattle.layouts.specs.SheetStages.{all_coefficients}
 use Rattle.layouts.specs.Operands.{index_within, index_exact}
-use Rattle.sheet_steps.specs.declared.Step.{Step}
-use Rattle.sheet_steps.specs.declared.Step.TheVariants.{Taken, Fault}
-use Rattle.sheet_steps.specs.Steps.{read_at, StepAs, StepOf, Comes, step_good, step_fault, Left, left_more, left_stops}
-use Rattle.sheet_reader.specs.declared.Coefficients.{Coefficients}
+use Rattle.refusals.specs.declared.Refused.{Refused}
+use Rattle.sheet_steps.specs.Steps.{Step, read_at, StepAs, StepOf, Comes, step_good, step_fault, Left, left_more, left_stops}
 
 -- what the coefficient reader gives: the polynomial in the array, or the fault
-pub record CoefficientsOf (part : List ℕ) (start p d : ℕ) (r : Coefficients) : Type 0 where
-  pub shaped : Shaped d r.coefs
-  pub step : StepAs (λ v. listed d r.coefs) (all_coefficients p d) 1 part start 0 r.step
+abbrev pub CoefficientsOf : List ℕ → ℕ → ℕ → ℕ → Step (List ℕ) → Type 0
+CoefficientsOf part start p d = StepAs (listed d) (all_coefficients p d) (Shaped d) part start 0
 
 -- what follows a coefficient's value, and its index
 abbrev after_value : ℕ → ℕ → List ℕ → ℕ → ℕ → ℕ → Reader Poly
@@ -63,13 +60,10 @@ module _ (part : List ℕ) (start p d : ℕ) where
 module _ {part : List ℕ} {start p d : ℕ} {coefs : List ℕ} {least at : ℕ} where
   -- whether a coefficient command comes
   module _ (w : Underway part start p d coefs least at) {code : ℕ} {r : Bool} (next : Comes code part at r) (is : code ≡ coefficient_code p) where
-    pub coefficients_end : r ≡ false → CoefficientsOf part start p d (record { step = Taken 0 at; coefs = coefs })
+    pub coefficients_end : r ≡ false → CoefficientsOf part start p d (Ok (coefs, at))
     coefficients_end e = record {
-      shaped = w.shaped;
-      step = record {
-        same = w.left.same ∙ none_left p (listed d coefs) w.room least (start + at) (drop at part) other;
-        inside = record { low = omega arith; on = zero-le; reach = w.left.reach };
-      };
+      same = w.left.same ∙ none_left p (listed d coefs) w.room least (start + at) (drop at part) other;
+      inside = record { good = w.shaped; on = zero-le; reach = w.left.reach };
     }
       where
         other : Other (coefficient_code p) (drop at part)
@@ -103,42 +97,43 @@ module _ {part : List ℕ} {start p d : ℕ} {coefs : List ℕ} {least at : ℕ}
             next_goes (coefficient_code p) _ _ (start + at) rest
             ∙ then_goes (command_byte (coefficient_code p)) _ (command_goes (coefficient_code p) (start + at) rest)
 
-  module _ {s : Step} where
-    pub index_fault : {k place : ℕ} → IndexDue part start p d coefs least at → StepOf (index_operand d least) d part start at s → s ≡ Fault k place
-        → CoefficientsOf part start p d (record { step = s; coefs = coefs })
-    index_fault w g e = record { shaped = w.shaped; step = step_fault e (left_stops (after_index p d coefs w.room) w.left g e) }
+  module _ {e : Refused} where
+    pub index_fault : IndexDue part start p d coefs least at → StepOf (index_operand d least) d part start at (Err e)
+        → CoefficientsOf part start p d (Err e)
+    index_fault w g = step_fault (left_stops (after_index p d coefs w.room) w.left g)
 
-    pub value_fault : {k place : ℕ} → ValueDue part start p d coefs least at → StepOf (value_operand p) (p ²) part start at s → s ≡ Fault k place
-        → CoefficientsOf part start p d (record { step = s; coefs = coefs })
-    value_fault w g e = record { shaped = w.shaped; step = step_fault e (left_stops (after_value p d coefs w.room least) w.left g e) }
+    pub value_fault : ValueDue part start p d coefs least at → StepOf (value_operand p) (p ²) part start at (Err e)
+        → CoefficientsOf part start p d (Err e)
+    value_fault w g = step_fault (left_stops (after_value p d coefs w.room least) w.left g)
 
-    pub value_due : {i next : ℕ} → IndexDue part start p d coefs least at → StepOf (index_operand d least) d part start at s → s ≡ Taken i next
-        → ValueDue part start p d coefs i next
-    value_due {i} {next} w g e = record {
+  module _ {t : ℕ × ℕ} where
+    pub value_due : IndexDue part start p d coefs least at → StepOf (index_operand d least) d part start at (Ok t)
+        → ValueDue part start p d coefs t.0 t.1
+    value_due w g = record {
       shaped = w.shaped;
       room = w.room;
       enough = omega (arith, w.enough, risen);
-      left = left_more (after_index p d coefs w.room) w.left g e;
+      left = left_more (after_index p d coefs w.room) w.left g;
     }
       where
-        risen : least ≤ i
-        risen = (index_within d least i (step_good (index_exact d least) g e)).1
+        risen : least ≤ t.0
+        risen = (index_within d least t.0 (step_good (index_exact d least) g)).1
 
-    pub underway_more : {v next : ℕ} → ValueDue part start p d coefs least at → least < d → StepOf (value_operand p) (p ²) part start at s → s ≡ Taken v next
-        → Underway part start p d (set coefs least v) (least + 1) next
-    underway_more {v} {next} w l g e = more w.room w.enough (left_more (after_value p d coefs w.room least) w.left g e)
+    pub underway_more : ValueDue part start p d coefs least at → least < d → StepOf (value_operand p) (p ²) part start at (Ok t)
+        → Underway part start p d (set coefs least t.0) (least + 1) t.1
+    underway_more w l g = more w.room w.enough (left_more (after_value p d coefs w.room least) w.left g)
       where
-        more : (room : ℕ) → d < suc room + least → Left (reading part start p d) part start (after_value p d coefs room least v) next
-            → Underway part start p d (set coefs least v) (least + 1) next
+        more : (room : ℕ) → d < suc room + least → Left (reading part start p d) part start (after_value p d coefs room least t.0) t.1
+            → Underway part start p d (set coefs least t.0) (least + 1) t.1
         more zero m q = absurd (omega arith)
         more (suc room) m q = record {
-          shaped = shaped_set w.shaped least v (omega arith);
+          shaped = shaped_set w.shaped least t.0 (omega arith);
           room = room;
           enough = omega arith;
           left = record {
             reach = q.reach;
             same = q.same
-                ∙ ap₂ (λ (k : ℕ) (f : Poly). read_at (coefficients (suc room) p k f) part start next)
-                (sym (add-one least)) (sym (listed_set d coefs least v (omega arith)));
+                ∙ ap₂ (λ (k : ℕ) (f : Poly). read_at (coefficients (suc room) p k f) part start t.1)
+                (sym (add-one least)) (sym (listed_set d coefs least t.0 (omega arith)));
           };
         }

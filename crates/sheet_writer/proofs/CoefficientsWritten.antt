@@ -1,11 +1,12 @@
 -- The commands of an array's coefficients, as they are written one by one.
--- Proves what is written for one coefficient, and how a loop writes those below d. Assumes nothing.
+-- Proves what is written for one coefficient, and how a loop writes all. Assumes nothing.
 use mathlib.Core.Path.{◌≡◌, sym, ◌∙◌, ap}
 use mathlib.Core.List.{List, [], ◌∷◌}
 use mathlib.Core.Logic.{◌≢◌}
-use Prim.Native.Nat.{ℕ, ◌≤◌}
+use Prim.Native.Nat.{ℕ}
 use native.Mathlib.Omega.{arith}
 use lib.ListN.{length, get_or, take}
+use lib.Seq.{take-length}
 use Rattle.specification.specs.Polynomials.{Poly}
 use Rattle.specification.specs.Coefficients.{coefficient_code, value_bytes}
 use Rattle.layouts.specs.CoefficientBytes.{
@@ -29,9 +30,13 @@ wrote_zero area at p i v e r =
 pub command_is : (p i v : ℕ) {k : ℕ} → v ≢ 0 → k ≡ coefficient_code p → k ∷ i ∷ value_bytes p v ≡ coefficient_bytes p i (v ∷ [])
 command_is p i v n e = ap (λ k. k ∷ i ∷ value_bytes p v) e ∙ sym (coefficient_bytes_one p i v (omega (arith, n)))
 
--- ---- those below d
+-- ---- all of them
 
 -- a loop writes them one by one
-pub coefficient_turns : (p : ℕ) (f : Poly) (d : ℕ) → d ≤ length f
-    → Turns (λ i. coefficient_bytes p 0 (take i f)) (λ i. coefficient_bytes p i (get_or f i 0 ∷ [])) d
-coefficient_turns p f d l = record { none = coefficient_bytes_none p 0; next = λ i u. coefficient_bytes_next p f i (omega arith) }
+pub coefficient_turns : (p : ℕ) (f : Poly)
+    → Turns (λ i. coefficient_bytes p 0 (take i f)) (λ i. coefficient_bytes p i (get_or f i 0 ∷ [])) (length f) (coefficient_bytes p 0 f)
+coefficient_turns p f = record {
+  none = coefficient_bytes_none p 0;
+  next = λ i u. coefficient_bytes_next p f i u;
+  all = ap (coefficient_bytes p 0) (take-length f);
+}

@@ -2,8 +2,22 @@
 -- Proves that they are those of the definitions. Assumes nothing.
 use Rattle.std.specs.Prelude.{◌≡◌, refl, true, false, ℕ, ◌≤◌, ◌+◌, length, get_or, take}
 use Rattle.std.proofs.Common.{sym, ◌∙◌, ap, add-one, arith, take-suc}
+use Rattle.std.proofs.Math.Seq.{take-length}
 use mathlib.Core.List.{List, [], ◌∷◌, ◌++◌, flat_map}
-use Rattle.specification.specs.Text.{ascii, item, head_text, verdict_text, coefficient_text, factor_text, part_text, total_text, run_text, parts_text, answer_text}
+use Rattle.specification.specs.Text.{
+  ascii,
+  item,
+  head_text,
+  verdict_text,
+  coefficient_text,
+  factor_text,
+  part_text,
+  total_text,
+  run_text,
+  parts_text,
+  answer_text,
+  refusal_text,
+}
 use Rattle.specification.specs.Sheets as spec
 use Rattle.specification.specs.Totals.{totals_of}
 use Rattle.arrays.specs.Listed.{degree_listed}
@@ -20,14 +34,22 @@ use Rattle.answer_writer.specs.AnswerArrays.{as_totals, run_of, run_of_asked}
 -- ---- words
 
 -- a loop writes a word byte by byte
-pub word_turns : (w : List ℕ) → Turns (λ i. take i w) (λ i. get_or w i 0 ∷ []) (length w)
-word_turns w = record { none = refl; next = λ i u. take-suc w i 0 u }
+pub word_turns : (w : List ℕ) → Turns (λ i. take i w) (λ i. get_or w i 0 ∷ []) (length w) w
+word_turns w = record { none = refl; next = λ i u. take-suc w i 0 u; all = take-length w }
 
 -- ---- a factor and a part
 
-pub coefficient_turns : (f : List ℕ) (n : ℕ) → n ≤ length f → Turns (λ i. coefficient_text (take i f)) (λ i. item " " (get_or f i 0)) n
+-- a loop writes them one by one, the first n
+pub coefficient_turns : (f : List ℕ) (n : ℕ) → n ≤ length f
+    → Turns (λ i. coefficient_text (take i f)) (λ i. item " " (get_or f i 0)) n (coefficient_text (take n f))
 unfolding coefficient_text
-coefficient_turns f n l = each_turn (item " ") 0 f n l
+coefficient_turns f n l =
+    let t = each_turn (item " ") 0 f in record { none = t.none; next = λ i u. t.next i (omega arith); all = refl }
+
+-- all
+pub all_coefficient_turns : (f : List ℕ) → Turns (λ i. coefficient_text (take i f)) (λ i. item " " (get_or f i 0)) (length f) (coefficient_text f)
+unfolding coefficient_text
+all_coefficient_turns f = each_turn (item " ") 0 f
 
 -- "coefficients from the constant up to the leading 1"
 pub factor_is : (q : Factor) → item "factor " q.times ++ coefficient_text (take (q.degree + 1) q.coefs) ++ ascii "\n" ≡ factor_text (as_factor q)
@@ -36,10 +58,10 @@ factor_is q = ap (λ k. item "factor " q.times ++ coefficient_text (take k q.coe
 
 pub part_is_lem : (x : Part) → length x.base ≡ 33 → x.degree ≤ 32
     → item "part " x.degree ++ item " " x.exponent ++ verdict_text (as_verdict x.verdict)
-    ++ flat_map factor_text (as_factors x.verdict x.first x.second) ≡ part_text (as_part x)
+    ++ flat_map factor_text (as_factors x.first x.second) ≡ part_text (as_part x)
 unfolding part_text
 part_is_lem x long l =
-    let factors = flat_map factor_text (as_factors x.verdict x.first x.second) in
+    let factors = flat_map factor_text (as_factors x.first x.second) in
     ap (λ d. item "part " d ++ item " " x.exponent ++ verdict_text (as_verdict x.verdict) ++ factors)
     (sym (degree_listed x.degree x.base (omega arith)))
 
@@ -48,6 +70,14 @@ part_is_lem x long l =
 -- the lines of a sheet's parts
 abbrev pub part_lines : spec.Sheet → List ℕ
 part_lines s = flat_map part_text (sheet_parts s)
+
+pub head_is : (p d : ℕ) → item "prime " p ++ item " degree " d ++ ascii "\n" ≡ head_text p d
+unfolding head_text
+head_is p d = refl
+
+pub refusal_is : (k at : ℕ) → item "refused " k ++ item " at " at ++ ascii "\n" ≡ refusal_text k at
+unfolding refusal_text
+refusal_is k at = refl
 
 -- "The last line holds the three totals"
 pub totals_are : (t : Totals)

@@ -1,10 +1,11 @@
-// What the programs share: a buffer filled from a reader. A read that fails stops no program: it ends the input.
+// What the programs share: a buffer filled from a reader, and the run of a program. A read that fails stops no program: it ends the input.
 #![tactic(auto)]
 
-ghost use Rattle.std.specs.Prelude.{◌≡◌, ◌<◌, ◌≤◌, length, take, false};
+ghost use Rattle.std.specs.Prelude.{◌≡◌, ◌<◌, ◌≤◌, length, take, false, true};
 ghost use Rattle.std.specs.Io.KnownBytes.{Consumes, IsAtEnd};
+ghost use Rattle.streams.specs.Written.{AllRead, Written};
 
-use std::io::Read;
+use std::io::{Read, Write};
 
 // How many bytes stand at the start of the buffer, and whether a read failed after them.
 #[derive(Clone, Copy)]
@@ -41,5 +42,27 @@ pub fn read_full<R: Read>(reader: &mut R, buf: &mut [u8]) -> Filled
     Filled {
         count: done,
         failed: false,
+    }
+}
+
+// Fills the buffer from the reader, has `work` write into the area what is made of the bytes, and gives out as many bytes of the area as it says. Whether
+// nothing failed.
+pub fn run<R: Read, W: Write, F: Fn(&mut [u8], &[u8]) -> usize>(
+    input: &mut R,
+    out: &mut W,
+    buf: &mut [u8],
+    area: &mut [u8],
+    work: F,
+) -> bool
+    requires callable { (a : _) (bytes : _) → length a.now ≡ length area.old → F.pre work a bytes }
+    requires within { (a : _) (bytes : _) (n : _) (left : _) → F.post work a bytes n left → n ≤ length left.now }
+    ensures { result ≡ true → (count : _) × AllRead (R.remaining input.old) (R.remaining input.new) buf.new count
+        × Written (F.post work) (take count buf.new) (W.contents out.old) (W.contents out.new) }
+{
+    let got = read_full(input, buf);
+    let count = work(area, &buf[..got.count]);
+    match out.write_all(&area[..count]) {
+        Ok(()) => !got.failed,
+        Err(_) => false,
     }
 }

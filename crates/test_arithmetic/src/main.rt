@@ -6,66 +6,57 @@ use polynomial::{Answer, Division, Poly};
 use std::io;
 use std::io::{BufReader, BufWriter, Read, Write};
 use streams::read_full;
-use test_cases::{Line, print_cases, record};
+use test_cases::{head, print_coefficients, print_outcome, record, work_cases};
 
 // The prime and the 33 coefficients.
-fn with_record(line: Line, a: Poly) -> Line {
-    let coefs = a.coefs;
-    line.next(a.prime as u16).coefficients(coefs, 33)
+fn print_record<W: Write>(out: &mut W, a: Poly) -> io::Result<()> {
+    let prime = a.prime;
+    write!(out, " {prime}")?;
+    print_coefficients(out, &a.coefs)
 }
 
-fn answered<W: Write>(out: &mut W, a: Answer) -> io::Result<()> {
-    let poly = a.poly;
-    with_record(Line::empty().outcome(a.number, a.place), poly)
-        .byte(10)
-        .print(out)
+fn print_answer<W: Write>(out: &mut W, a: Answer) -> io::Result<()> {
+    print_outcome(out, a.number, a.place)?;
+    print_record(out, a.poly)?;
+    writeln!(out)
 }
 
-fn divided<W: Write>(out: &mut W, a: Division) -> io::Result<()> {
-    let quotient = a.quotient;
-    let remainder = a.remainder;
-    let line = with_record(Line::empty().outcome(a.number, a.place), quotient);
-    with_record(line.byte(32).byte(124), remainder)
-        .byte(10)
-        .print(out)
+fn print_division<W: Write>(out: &mut W, a: Division) -> io::Result<()> {
+    print_outcome(out, a.number, a.place)?;
+    print_record(out, a.quotient)?;
+    write!(out, " |")?;
+    print_record(out, a.remainder)?;
+    writeln!(out)
 }
 
 // 0 to 2: zero, one and x of the first record's prime; then sum, difference, product; the rest divides.
-fn work<W: Write>(out: &mut W, operation: u8, a: Poly, b: Poly) -> io::Result<()> {
+fn print_result<W: Write>(out: &mut W, operation: u8, a: Poly, b: Poly) -> io::Result<()> {
     match operation {
-        0 => answered(out, Poly::zero(a.prime)),
-        1 => answered(out, Poly::one(a.prime)),
-        2 => answered(out, Poly::x(a.prime)),
-        3 => answered(out, polynomial::add(a, b)),
-        4 => answered(out, polynomial::sub(a, b)),
-        5 => answered(out, polynomial::mul(a, b)),
-        _ => divided(out, polynomial::divide(a, b)),
+        0 => print_answer(out, Poly::zero(a.prime)),
+        1 => print_answer(out, Poly::one(a.prime)),
+        2 => print_answer(out, Poly::x(a.prime)),
+        3 => print_answer(out, polynomial::add(a, b)),
+        4 => print_answer(out, polynomial::sub(a, b)),
+        5 => print_answer(out, polynomial::mul(a, b)),
+        _ => print_division(out, polynomial::divide(a, b)),
     }
 }
 
-// Works the cases up to the end of the input, and says how many there were.
-fn work_cases<R: Read, W: Write>(input: &mut R, out: &mut W) -> io::Result<u16> {
-    let mut cases: u16 = 0;
-    while cases < 65535 {
-        let mut operation = [0u8; 1];
-        let mut a = [0u8; 67];
-        let mut b = [0u8; 67];
-        read_full(input, &mut operation);
-        read_full(input, &mut a);
-        let got = read_full(input, &mut b);
-        if got.count < 67 {
-            break;
-        }
-        work(out, operation[0], record(a), record(b))?;
-        cases += 1;
-    }
-    Ok(cases)
+// Works a case, if there is another.
+fn work<R: Read, W: Write>(input: &mut R, out: &mut W) -> io::Result<bool> {
+    let mut operation = [0u8; 1];
+    let mut a = [0u8; 67];
+    read_full(input, &mut operation);
+    read_full(input, &mut a);
+    let Some(b) = head(input) else {
+        return Ok(false);
+    };
+    print_result(out, operation[0], record(&a), record(&b))?;
+    Ok(true)
 }
 
 fn main(rt: HostRuntime) -> io::Result<()> {
     let mut input = BufReader::new(rt.alloc(), rt.reader())?;
     let mut out = BufWriter::new(rt.alloc(), io::writer(&rt))?;
-    let cases = work_cases(&mut input, &mut out)?;
-    print_cases(&mut out, cases as u64)?;
-    out.flush()
+    work_cases(&mut input, &mut out, work)
 }

@@ -3,131 +3,116 @@
 // cases and what must be printed are made by tests/reference.
 #![tactic(auto)]
 
-ghost use Rattle.std.specs.Prelude.{◌≡◌};
-ghost use Rattle.arrays.specs.Held.{MonicModSquare};
+ghost use Rattle.std.specs.Prelude.{OnOk};
+ghost use Rattle.parts.specs.PowersFound.{PowersFound};
 ghost use Rattle.polynomial.specs.AsRecord.{as_record};
 ghost use Rattle.test_parts.specs.HasParts.{HasParts};
 
 use arrays::{Coefs, size};
+use modp_factors::Powers;
 use part_verdict::{Factor, Part, Verdict};
 use parts::{next_part, powers_of};
 use polynomial::{Poly, leading, proper};
+use refusals::Refusal;
 use std::io;
 use std::io::{BufReader, BufWriter, Read, Write};
-use streams::read_full;
-use test_cases::{Line, print_cases, record, small};
+use test_cases::{head, print_coefficients, print_outcome, record, work_cases};
 
 // ` :` and the coefficients of a polynomial of the degree.
-fn with_polynomial(line: Line, coefs: Coefs, degree: usize) -> Line {
-    line.byte(32).byte(58).coefficients(coefs, degree % 33 + 1)
+fn print_polynomial<W: Write>(out: &mut W, coefs: Coefs, degree: usize) -> io::Result<()> {
+    write!(out, " :")?;
+    print_coefficients(out, &coefs[..degree % 33 + 1])
 }
 
 // ` ; times : factor`.
-fn with_factor(line: Line, factor: Factor) -> Line {
-    let coefs = factor.coefs;
-    with_polynomial(
-        line.byte(32).byte(59).next(small(factor.times)),
-        coefs,
-        factor.degree,
-    )
+fn print_factor<W: Write>(out: &mut W, factor: Factor) -> io::Result<()> {
+    let times = factor.times;
+    write!(out, " ; {times}")?;
+    print_polynomial(out, factor.coefs, factor.degree)
 }
 
-// ` | degree power verdict : base`; m1 follows a split verdict.
-fn begun(part: Part) -> Line {
-    let base = part.base;
-    let verdict = part.verdict;
-    let head = Line::empty()
-        .byte(32)
-        .byte(124)
-        .next(small(part.degree))
-        .next(small(part.exponent));
-    let judged = match verdict {
-        Verdict::Basic => head.next(1),
-        Verdict::Solid => head.next(2),
-        Verdict::Power => head.next(3),
-        Verdict::Split(m1) => head.next(4).next(small(m1)),
-    };
-    with_polynomial(judged, base, part.degree)
-}
-
-// The second factor counts only where the verdict is split.
-fn print_part<W: Write>(out: &mut W, part: Part) -> io::Result<()> {
-    let verdict = part.verdict;
-    let first = part.first;
-    let second = part.second;
-    let line = with_factor(begun(part), first);
+// ` 1`, ` 2` or ` 3`, or ` 4` and m1.
+fn print_verdict<W: Write>(out: &mut W, verdict: Verdict) -> io::Result<()> {
     match verdict {
-        Verdict::Split(_) => with_factor(line, second).print(out),
-        _ => line.print(out),
+        Verdict::Basic => write!(out, " 1"),
+        Verdict::Solid => write!(out, " 2"),
+        Verdict::Power => write!(out, " 3"),
+        Verdict::Split(m1) => write!(out, " 4 {m1}"),
     }
 }
 
-fn print_parts<W: Write>(out: &mut W, f: Coefs, d: usize, p: u16) -> io::Result<()>
-    requires { MonicModSquare p f d }
+// ` | degree power verdict : base`, and the one or two factors.
+fn print_part<W: Write>(out: &mut W, part: Part) -> io::Result<()> {
+    let degree = part.degree;
+    let exponent = part.exponent;
+    write!(out, " | {degree} {exponent}")?;
+    print_verdict(out, part.verdict)?;
+    print_polynomial(out, part.base, degree)?;
+    print_factor(out, part.first)?;
+    match part.second {
+        Some(second) => print_factor(out, second),
+        None => Ok(()),
+    }
+}
+
+fn print_parts<W: Write>(out: &mut W, f: Coefs, d: usize, p: u16, found: &Powers) -> io::Result<()>
+    requires { PowersFound p f d found.now }
 {
-    let found = powers_of(f, d, p);
     let mut rest = f;
     let mut e = d;
-    let mut i: usize = 0;
-    while i < found.count {
-        let x = found.powers[i];
-        let next = next_part(rest, e, x, p);
-        let part = next.part;
-        let left = next.rest;
-        print_part(out, part)?;
-        rest = left;
+    let powers = found.as_slice();
+    for x in powers {
+        let next = next_part(rest, e, *x, p);
+        print_part(out, next.part)?;
+        rest = next.rest;
         e = next.degree;
-        i += 1;
     }
     Ok(())
 }
 
-// 10, 13 or 5; 0 where the record has parts.
-fn judged(a: Poly) -> u8
-    ensures { result ≡ 0 → HasParts (as_record a) }
+// Whether the record has parts.
+fn judged(a: Poly) -> Result<(), Refusal>
+    ensures { OnOk result (HasParts (as_record a)) }
 {
-    let f = a.coefs;
-    if proper(a) {
-        if leading(f) == 1 {
-            if size(f) == 1 { 5 } else { 0 }
-        } else {
-            13
-        }
-    } else {
-        10
+    if !proper(a) {
+        return Err(Refusal::NotProper);
     }
+    if leading(a.coefs) != 1 {
+        return Err(Refusal::DivisorNotMonic);
+    }
+    if size(a.coefs) == 1 {
+        return Err(Refusal::WrongDegree);
+    }
+    Ok(())
 }
 
-fn work<W: Write>(out: &mut W, bytes: [u8; 67]) -> io::Result<()> {
-    let a = record(bytes);
-    let number = judged(a);
-    Line::empty().outcome(number, 0).print(out)?;
-    if number == 0 {
-        let f = a.coefs;
-        print_parts(out, f, size(f) - 1, a.prime as u16)?;
+// The line of a record.
+fn print_record<W: Write>(out: &mut W, a: Poly) -> io::Result<()> {
+    match judged(a) {
+        Ok(()) => {
+            print_outcome(out, 0, 0)?;
+            let f = a.coefs;
+            let d = size(f) - 1;
+            let p = a.prime as u16;
+            let found = powers_of(f, d, p);
+            print_parts(out, f, d, p, &found)?;
+        }
+        Err(why) => print_outcome(out, why.into(), 0)?,
     }
-    Line::empty().byte(10).print(out)
+    writeln!(out)
 }
 
-// Works the records up to the end of the input, and says how many there were.
-fn work_cases<R: Read, W: Write>(input: &mut R, out: &mut W) -> io::Result<u16> {
-    let mut cases: u16 = 0;
-    while cases < 65535 {
-        let mut bytes = [0u8; 67];
-        let got = read_full(input, &mut bytes);
-        if got.count < 67 {
-            break;
-        }
-        work(out, bytes)?;
-        cases += 1;
-    }
-    Ok(cases)
+// Works a record, if there is another.
+fn work<R: Read, W: Write>(input: &mut R, out: &mut W) -> io::Result<bool> {
+    let Some(bytes) = head(input) else {
+        return Ok(false);
+    };
+    print_record(out, record(&bytes))?;
+    Ok(true)
 }
 
 fn main(rt: HostRuntime) -> io::Result<()> {
     let mut input = BufReader::new(rt.alloc(), rt.reader())?;
     let mut out = BufWriter::new(rt.alloc(), io::writer(&rt))?;
-    let cases = work_cases(&mut input, &mut out)?;
-    print_cases(&mut out, cases as u64)?;
-    out.flush()
+    work_cases(&mut input, &mut out, work)
 }

@@ -2,59 +2,12 @@
 // The cases and what must be printed are made by tests/reference.
 #![tactic(auto)]
 
-use splitter::split;
 use std::io;
-use std::io::{BufReader, BufWriter, Read, Write};
-use streams::read_full;
-use test_cases::{AREA, fresh_area, joined, print_call, print_cases};
-
-// Fills the sheet from standard input and calls with an area of the length `room`.
-fn work<R: Read, W: Write>(
-    input: &mut R,
-    out: &mut W,
-    sheet: &mut [u8],
-    room: usize,
-) -> io::Result<()> {
-    read_full(input, sheet);
-    if room <= AREA {
-        let mut area = fresh_area();
-        let outcome = split(sheet, &mut area[0..room]);
-        print_call(out, outcome.number, outcome.place, outcome.count, area)
-    } else {
-        Ok(())
-    }
-}
-
-fn work_case<R: Read, W: Write>(input: &mut R, out: &mut W, head: [u8; 4]) -> io::Result<()> {
-    let length = joined(head[0], head[1]) as usize;
-    let room = joined(head[2], head[3]) as usize;
-    if length <= AREA {
-        let mut bytes = [0u8; AREA];
-        work(input, out, &mut bytes[0..length], room)
-    } else {
-        Ok(())
-    }
-}
-
-// Works the cases up to the end of the input, and says how many there were.
-fn work_cases<R: Read, W: Write>(input: &mut R, out: &mut W) -> io::Result<u16> {
-    let mut cases: u16 = 0;
-    while cases < 65535 {
-        let mut head = [0u8; 4];
-        let got = read_full(input, &mut head);
-        if got.count < 4 {
-            break;
-        }
-        work_case(input, out, head)?;
-        cases += 1;
-    }
-    Ok(cases)
-}
+use std::io::{BufReader, BufWriter};
+use test_cases::work_calls;
 
 fn main(rt: HostRuntime) -> io::Result<()> {
     let mut input = BufReader::new(rt.alloc(), rt.reader())?;
     let mut out = BufWriter::new(rt.alloc(), io::writer(&rt))?;
-    let cases = work_cases(&mut input, &mut out)?;
-    print_cases(&mut out, cases as u64)?;
-    out.flush()
+    work_calls(&mut input, &mut out, splitter::split)
 }

@@ -1,11 +1,8 @@
 -- `modp_element::less_power` meets its contract.
 -- Assumes nothing.
-use native.Mathlib.Omega.{arith}
+use Rattle.std.proofs.Common.{arith}
 use Rattle.modp_element.specs.Images.{less_power}
 use Rattle.modp_element.proofs.less_power.Goals as goal
-
-pub less_one-requires : goal.less_one-requires
-less_one-requires c = c.requires.2.low _
 
 pub returns : goal.returns
 returns c =

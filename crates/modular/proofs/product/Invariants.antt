@@ -1,11 +1,7 @@
 -- `modular::product` meets its contract. A term of a that is 0 adds nothing.
 -- Assumes nothing.
-use Prim.Native.Nat.{◌≤◌, ◌-◌}
 use Rattle.modular.proofs.ProductLoop.{PartialProduct}
 use Rattle.modular.proofs.product.Given as goal
 
 abbrev pub invariant-loop-i : goal.invariant-loop-i
-invariant-loop-i l = PartialProduct l.n l.a l.b l.i l.r × (l.i ≤ l.s)
-
-abbrev pub decreases-loop-i : goal.decreases-loop-i
-decreases-loop-i l = l.s - l.i
+invariant-loop-i l = PartialProduct l.n l.a l.b l.i l.r

@@ -1,32 +1,25 @@
 -- `sheet_steps::degree_at` meets its contract.
 -- Assumes nothing.
 use native.Mathlib.Omega.{arith}
-use borrow.Author.Rules.{rules}
 use Rattle.specification.specs.Sheets.{degree_taken, degree_operand}
 use Rattle.layouts.specs.Operands.{degree_passes, degree_within}
-use Rattle.sheet_steps.specs.Steps.{past_command, step_inside, with_command_ends, operand_ends, operand_taken, operand_wrong}
+use Rattle.refusals.specs.declared.Refusal.TheVariants as refusal
+use Rattle.sheet_steps.specs.Steps.{handed_on, with_command_ends, operand_ends, operand_taken, operand_wrong}
 use Rattle.sheet_steps.proofs.degree_at.Goals as goal
 
-pub returns-in_default : goal.returns-in_default
-returns-in_default c = with_command_ends 0x02 degree_operand c.command_at-first.ensures c.in_default.is
+pub returns-in_err-place : goal.returns-in_err-place
+returns-in_err-place c = handed_on c.from_residual.ensures.1 (with_command_ends 0x02 degree_operand c.in_err-place.ensures)
 
-pub byte_at-second-requires : goal.byte_at-second-requires
-byte_at-second-requires c = (search rules, (step_inside c.command_at-first.ensures c.in-Taken.is).reach)
+pub returns-in_err-operand : goal.returns-in_err-operand
+returns-in_err-operand c =
+    handed_on c.from_residual-in_err-operand.ensures.1 (operand_ends 0x02 refusal.WrongDegree degree_taken c.in_ok-place.ensures c.in_err-operand.ensures)
 
-pub returns-in_default-second : goal.returns-in_default-second
-returns-in_default-second c = operand_ends (past_command c.command_at-first.ensures c.in-Taken.is c.byte_at-second.ensures) 5 degree_taken c.in_default-second.is
+pub returns-then-degree-eq0 : goal.returns-then-degree-eq0
+returns-then-degree-eq0 c =
+    operand_wrong 0x02 refusal.WrongDegree degree_taken c.in_ok-place.ensures c.in_ok-operand.ensures
+    (λ t. let within = degree_within c.in_ok-operand.operand t in omega (arith, within.0, within.1)) c.at.ensures
 
-pub returns-then-degree-le-LIMIT : goal.returns-then-degree-le-LIMIT
-returns-then-degree-le-LIMIT c =
-    operand_taken (past_command c.command_at-first.ensures c.in-Taken.is c.byte_at-second.ensures) 5 degree_taken c.in-Taken-second.is (omega arith)
-    (degree_passes c.in-Taken-second.degree (search rules) (search rules))
-
-pub returns-else-degree-le-LIMIT : goal.returns-else-degree-le-LIMIT
-returns-else-degree-le-LIMIT c =
-    operand_wrong (past_command c.command_at-first.ensures c.in-Taken.is c.byte_at-second.ensures) 5 degree_taken c.in-Taken-second.is
-    (λ t. omega (arith, (degree_within c.in-Taken-second.degree t).1))
-
-pub returns-else-degree-gt0 : goal.returns-else-degree-gt0
-returns-else-degree-gt0 c =
-    operand_wrong (past_command c.command_at-first.ensures c.in-Taken.is c.byte_at-second.ensures) 5 degree_taken c.in-Taken-second.is
-    (λ t. omega (arith, (degree_within c.in-Taken-second.degree t).0))
+pub returns : goal.returns
+returns c =
+    operand_taken 0x02 refusal.WrongDegree degree_taken c.in_ok-place.ensures c.in_ok-operand.ensures (omega arith)
+    (degree_passes c.in_ok-operand.operand (omega arith) (omega arith))

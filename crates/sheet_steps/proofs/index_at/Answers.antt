@@ -2,28 +2,23 @@
 -- Assumes nothing.
 use mathlib.Core.Path.{refl}
 use native.Mathlib.Omega.{arith}
-use borrow.Author.Rules.{rules}
 use Rattle.specification.specs.Coefficients.{index_taken}
 use Rattle.layouts.specs.Operands.{index_passes, index_within}
-use Rattle.sheet_steps.specs.Steps.{judged_taken, judged_wrong, judged_ends}
+use Rattle.refusals.specs.declared.Refusal.TheVariants as refusal
+use Rattle.sheet_steps.specs.Steps.{handed_on, judged_taken, judged_wrong, judged_ends}
 use Rattle.sheet_steps.proofs.index_at.Goals as goal
-use Rattle.sheet_steps.proofs.index_at.Goals.{then-index-degree+else-least-index, else-index-degree}
 
-pub returns-in_default : goal.returns-in_default
-returns-in_default c = judged_ends c.byte_at-step.ensures 6 _ c.in_default.is
+pub returns-in_err-operand : goal.returns-in_err-operand
+returns-in_err-operand c = handed_on c.from_residual.ensures.1 (judged_ends refusal.WrongIndex _ c.in_err-operand.ensures)
 
-pub returns-then-least-index : goal.returns-then-least-index
-returns-then-least-index c =
-    let w = c in
-    let a = w.args in
-    judged_taken w.byte_at-step.ensures 6 (index_taken a.degree a.least) c.in-Taken.is (search rules)
-    (index_passes a.degree a.least _ (search rules) (search rules))
+pub returns-then-degree-index : goal.returns-then-degree-index
+returns-then-degree-index c =
+    let a = c.args in
+    judged_wrong refusal.WrongIndex (index_taken a.degree a.least) c.in_ok-operand.ensures
+    (λ t. let within = index_within a.degree a.least _ t in omega (arith, within.0, within.1)) c.at.ensures refl
 
 pub returns : goal.returns
 returns c =
-    let w = c in
-    let a = w.args in
-    judged_wrong w.byte_at-step.ensures 6 (index_taken a.degree a.least) c.in-Taken.is
-    (λ t.
-    let (l, m) = index_within a.degree a.least _ t in
-    elim c.if-index-degree.branch [ then-index-degree+else-least-index u ↦ omega arith | else-index-degree u ↦ omega arith ]) refl
+    let a = c.args in
+    judged_taken refusal.WrongIndex (index_taken a.degree a.least) c.in_ok-operand.ensures (omega arith)
+    (index_passes a.degree a.least _ (omega arith) (omega arith))

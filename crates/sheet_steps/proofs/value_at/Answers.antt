@@ -4,27 +4,26 @@ use mathlib.Core.Path.{refl}
 use native.Mathlib.Omega.{arith}
 use Rattle.specification.specs.Coefficients.{value_taken}
 use Rattle.layouts.specs.Operands.{value_passes, value_within}
-use Rattle.sheet_steps.specs.Steps.{judged_taken, judged_wrong, judged_ends}
+use Rattle.refusals.specs.declared.Refusal.TheVariants as refusal
+use Rattle.sheet_steps.specs.Steps.{handed_on, judged_taken, judged_wrong, judged_ends}
 use Rattle.sheet_steps.proofs.value_at.Goals as goal
-use Rattle.sheet_steps.proofs.value_at.Goals.{then-value-gt0+else-value-modulus, else-value-gt0}
+use Rattle.sheet_steps.proofs.value_at.Goals.{then-value-eq0-via-then-value-eq0, then-value-eq0-via-else-value-eq0+then-square-value}
 
-pub returns-in_default : goal.returns-in_default
-returns-in_default c = judged_ends c.number_at-step.ensures 7 _ c.in_default.is
+pub returns-in_err-value : goal.returns-in_err-value
+returns-in_err-value c = handed_on c.from_residual.ensures.1 (judged_ends refusal.WrongValue _ c.in_err-value.ensures)
 
-pub returns-then-value-modulus : goal.returns-then-value-modulus
-returns-then-value-modulus c =
-    let w = c in
-    let s = w.square-modulus.ensures in
-    let p = w.args.prime in
-    judged_taken w.number_at-step.ensures 7 (value_taken p) c.in-Taken.is (omega (arith, s))
-    (value_passes p _ c.if-value-gt0.true (omega (arith, s)))
+pub returns-then-value-eq0 : goal.returns-then-value-eq0
+returns-then-value-eq0 c =
+    let p = c.args.prime in
+    judged_wrong refusal.WrongValue (value_taken p) c.in_ok-value.ensures
+    (λ t.
+    let (positive, below) = value_within p c.in_ok-value.value t in
+    elim c.then-value-eq0.branch [
+      | then-value-eq0-via-then-value-eq0 w ↦ omega arith
+      | then-value-eq0-via-else-value-eq0+then-square-value w ↦ omega (arith, w.square.ensures)
+    ]) c.at.ensures refl
 
 pub returns : goal.returns
 returns c =
-    let w = c in
-    let s = w.square-modulus.ensures in
-    let p = w.args.prime in
-    judged_wrong w.number_at-step.ensures 7 (value_taken p) c.in-Taken.is
-    (λ t.
-    let (l, m) = value_within p c.in-Taken.value t in
-    elim c.if-value-gt0.branch [ then-value-gt0+else-value-modulus u ↦ omega arith | else-value-gt0 u ↦ omega arith ]) refl
+    let p = c.args.prime in
+    judged_taken refusal.WrongValue (value_taken p) c.in_ok-value.ensures (omega arith) (value_passes p _ (omega arith) (omega arith))

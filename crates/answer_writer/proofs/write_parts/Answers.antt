@@ -1,0 +1,47 @@
+-- `answer_writer::write_parts` meets its contract: after i turns the first i parts are written and counted.
+-- Assumes nothing.
+use Rattle.answer_writer.proofs.PartsWriting.{
+  writing_none,
+  writing_done,
+  writing_asks,
+  writing_fits,
+  writing_room,
+  writing_low,
+  writing_repeated,
+  writing_more,
+}
+use Rattle.answer_writer.proofs.write_parts.Goals as goal
+
+pub loop-x-init : goal.loop-x-init
+loop-x-init g c = let (F, good, room) = c.requires in writing_none _ F good room c.as_slice-powers.ensures.value
+
+pub next_part-next-requires : goal.next_part-next-requires
+next_part-next-requires g c =
+    let (F, good, room) = c.requires in
+    writing_asks _ F good room c.as_slice-powers.ensures.value c.loop-x.invariant c.loop-x-test.true
+
+pub write_part-after-requires : goal.write_part-after-requires
+write_part-after-requires g c =
+    let (F, good, room) = c.requires in (
+      writing_fits _ F good room c.as_slice-powers.ensures.value c.loop-x.invariant c.loop-x-test.true c.next_part-next.ensures,
+      writing_room _ F good room c.as_slice-powers.ensures.value c.loop-x.invariant c.loop-x-test.true c.next_part-next.ensures,
+    )
+
+pub with_part-totals-requires : goal.with_part-totals-requires
+with_part-totals-requires g c =
+    let (F, good, room) = c.requires in (
+      (writing_fits _ F good room c.as_slice-powers.ensures.value c.loop-x.invariant c.loop-x-test.true c.next_part-next.ensures).base,
+      writing_repeated _ F good room c.as_slice-powers.ensures.value c.loop-x.invariant c.loop-x-test.true c.next_part-next.ensures,
+      writing_low _ F good room c.as_slice-powers.ensures.value c.loop-x.invariant c.loop-x-test.true c.next_part-next.ensures,
+    )
+
+pub loop-x-preserved : goal.loop-x-preserved
+loop-x-preserved g c =
+    let (F, good, room) = c.requires in
+    writing_more _ F good room c.as_slice-powers.ensures.value c.loop-x.invariant c.loop-x-test.true c.next_part-next.ensures
+    c.write_part-after.ensures c.with_part-totals.ensures
+
+pub returns : goal.returns
+returns g c =
+    let (F, good, room) = c.requires in
+    writing_done _ F good room c.as_slice-powers.ensures.value c.loop-x.invariant c.loop-x-test.false

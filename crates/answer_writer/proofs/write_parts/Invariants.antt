@@ -1,0 +1,9 @@
+-- `answer_writer::write_parts` meets its contract: after i turns the first i parts are written and counted.
+-- Assumes nothing.
+use Rattle.answer_writer.proofs.PartsWriting.{Writing}
+use Rattle.answer_writer.proofs.write_parts.Given as goal
+
+abbrev pub invariant-loop-x : goal.invariant-loop-x
+invariant-loop-x g l =
+    Writing (g.W.PartWriter.part_written l.writer) l.fn.s.prime l.fn.s.coefs l.fn.s.degree l.fn.found l.fn.out l.at l.out l.after l.x-index l.totals
+    l.rest l.degree

@@ -1,0 +1,11 @@
+-- `line_values::of_sum` meets its contract.
+-- Assumes nothing.
+use Rattle.line_values.specs.Worth.{OfSum}
+use Rattle.line_values.proofs.Judging.{passed_on}
+use Rattle.line_values.proofs.Sums.{sum_without}
+use Rattle.line_values.proofs.of_sum.Goals as goal
+
+pub returns-in_err-f : goal.returns-in_err-f
+returns-in_err-f c =
+    passed_on (OfSum c.args.p c.args.sign c.args.a c.args.b) c.from_residual.result c.from_residual.ensures.1
+    (sum_without c.args.sign c.in_err-f.ensures)

@@ -1,0 +1,66 @@
+-- `modp_dependency::least_dependency` meets its contract.
+-- Assumes nothing.
+use Rattle.std.proofs.Common.{◌-◌, arith, rules, ⊎_elim}
+use Rattle.algebra.specs.Degree.{below_up}
+use Rattle.arrays.specs.SameEntries.{zero_above}
+use Rattle.modp_dependency.specs.Dependency.{searching_none, image_reducible, image_reduced, free_slot, searching_found, searching_more}
+use Rattle.modp_dependency.specs.Storing.{row_stored}
+use Rattle.modp_dependency.proofs.least_dependency.Goals as goal
+
+pub loop-i-init : goal.loop-i-init
+loop-i-init c = searching_none c.requires.0 c.requires.1
+
+pub size_below-size-requires : goal.size_below-size-requires
+size_below-size-requires c =
+    let h = c.requires in
+    let reduced = h.4.reduced c.loop-i.i c.loop-i-test.true in
+    (h.3, omega (arith, reduced.len), zero_above reduced (h.4.small c.loop-i.i c.loop-i-test.true))
+
+pub reduce-k-requires : goal.reduce-k-requires
+reduce-k-requires c =
+    let h = c.requires in
+    image_reducible h.0 h.4 h.2 c.loop-i-test.true c.loop-i.invariant c.monomial-preimage.ensures c.size_below-size.ensures
+
+pub returns-then-k-eq0 : goal.returns-then-k-eq0
+returns-then-k-eq0 c =
+    let h = c.requires in
+    let left = image_reduced h.0 h.4 h.2 c.loop-i-test.true c.loop-i.invariant c.monomial-preimage.ensures c.size_below-size.ensures c.reduce-k.ensures in
+    searching_found h.0 c.loop-i-test.true c.loop-i.invariant left (omega arith)
+
+pub offset_bounds-rows-k : goal.offset_bounds-rows-k
+offset_bounds-rows-k c =
+    let h = c.requires in
+    let left = image_reduced h.0 h.4 h.2 c.loop-i-test.true c.loop-i.invariant c.monomial-preimage.ensures c.size_below-size.ensures c.reduce-k.ensures in
+    search (rules, left.size.limit)
+
+pub bounds-rows-k : goal.bounds-rows-k
+bounds-rows-k c =
+    let h = c.requires in
+    let left = image_reduced h.0 h.4 h.2 c.loop-i-test.true c.loop-i.invariant c.monomial-preimage.ensures c.size_below-size.ensures c.reduce-k.ensures in
+    omega (arith, left.size.limit)
+
+pub store-requires : goal.store-requires
+store-requires c =
+    let h = c.requires in
+    let left = image_reduced h.0 h.4 h.2 c.loop-i-test.true c.loop-i.invariant c.monomial-preimage.ensures c.size_below-size.ensures c.reduce-k.ensures in
+    let slot =
+    free_slot h.0 (c.reduce-k.result - 1) c.loop-i.invariant (omega (arith, left.size.limit))
+    (⊎_elim (λ e. absurd (omega (arith, e))) (λ free. free) c.reduce-k.ensures.stops) in (
+      h.0,
+      omega arith,
+      omega (arith, h.2),
+      slot.0,
+      slot.1,
+      left.image,
+      left.size,
+      left.preimage,
+      below_up (omega arith) left.reducing.monic.below,
+    )
+
+pub loop-i-preserved : goal.loop-i-preserved
+loop-i-preserved c =
+    let h = c.requires in
+    let left = image_reduced h.0 h.4 h.2 c.loop-i-test.true c.loop-i.invariant c.monomial-preimage.ensures c.size_below-size.ensures c.reduce-k.ensures in
+    searching_more h.0 c.loop-i-test.true c.loop-i.invariant left (omega arith)
+    (⊎_elim (λ e. absurd (omega (arith, e))) (λ free. free) c.reduce-k.ensures.stops)
+    (row_stored _ (omega (arith, c.loop-i.invariant.slots, left.size.limit)) c.store.ensures)

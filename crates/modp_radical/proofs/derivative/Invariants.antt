@@ -1,0 +1,6 @@
+-- `modp_radical::derivative`: the loop has stored the entries before k.
+use Rattle.modp_radical.proofs.DerivedArrays.{Stored, derivative_entry}
+use Rattle.modp_radical.proofs.derivative.Given as goal
+
+abbrev pub invariant-loop-k : goal.invariant-loop-k
+invariant-loop-k l = Stored (derivative_entry l.p l.a) l.r l.k

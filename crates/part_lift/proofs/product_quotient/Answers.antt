@@ -1,0 +1,15 @@
+-- `part_lift::product_quotient` meets its contract.
+-- Assumes nothing.
+use Rattle.std.proofs.Common.{add-one, arith}
+use Rattle.algebra.specs.Degree.{below_mul}
+use Rattle.part_lift.specs.Quotients.{quotient_divided}
+use Rattle.part_lift.proofs.product_quotient.Goals as goal
+
+pub divide-d-requires : goal.divide-d-requires
+divide-d-requires c =
+    let (fits, t, r, b, small_t, small_r, monic) = c.requires in
+    let w = c.product-w.ensures in
+    (w.reduced, b, omega (arith, fits), omega (arith, fits), rw w.is (below_mul small_t (rw (← add-one) small_r)), monic)
+
+pub returns : goal.returns
+returns c = quotient_divided c.product-w.ensures c.divide-d.ensures
