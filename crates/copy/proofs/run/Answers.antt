@@ -1,18 +1,13 @@
 -- What was written is the copy, or the refusal, of what was read, which is that of the whole input.
-use Rattle.std.proofs.Common.{◌≡◌, List, ℕ, Option, sym, ◌∙◌, ap, subst, arith, take, take_at}
+use Rattle.std.proofs.Common.{sym, ap, subst, arith}
 use Rattle.std.specs.Io.KnownBytes.{Appends}
 use Rattle.specification.specs.SheetClaims.{sheet_limit}
 use Rattle.specification.specs.Text.{copied}
-use Rattle.area.specs.Wrote.{Wrote, length_wrote, wrote_from_start}
+use Rattle.area.specs.Wrote.{length_wrote}
 use Rattle.copy_output.specs.GivenOut.{copied_prefix}
+use Rattle.split_text.proofs.WrittenOut.{written_out}
 use Rattle.streams.proofs.Decided.{decided}
 use Rattle.copy.proofs.run.Goals as goal
-
-written_is : {old left read bytes : List ℕ} {count : ℕ} (held holds : Option (List ℕ))
-    → Wrote old left 0 (copied read) count → read ≡ bytes → Appends held holds (take count left) → Appends held holds (copied bytes)
-written_is held holds w e =
-    let wrote = wrote_from_start w in
-    subst (Appends held holds) (ap (take _) wrote.1 ∙ take_at _ _ _ (sym wrote.0) ∙ ap copied e)
 
 pub run-requires-clause-within : goal.run-requires-clause-within
 run-requires-clause-within g c area bytes n left w = omega (arith, w.fits, length_wrote w)
@@ -24,5 +19,5 @@ returns g c well =
     (λ xs ys l. subst (Appends _ _) (sym (copied_prefix xs ys l)))
     (omega (arith, c.input-sheet.ensures, c.run.auto.buf))
     read.fits
-    (written_is _ _ written.called written.bytes_are written.written)
+    (written_out _ _ written.called (ap copied written.bytes_are) written.written)
     _ _ read.bytes read.end
