@@ -24,10 +24,10 @@ use Rattle.arrays.specs.MonomialArray.{IsMonomial, monomial_represents, monomial
 use Rattle.lists.specs.Members.{all_cons}
 use Rattle.layouts.specs.CommandsReadBack.{factors_past}
 use Rattle.answer_reader.specs.declared.Factor.{Factor}
-use Rattle.answer_reader.specs.declared.Grown.{Grown}
+use Rattle.arrays.specs.declared.MonicPoly.{MonicPoly}
 use Rattle.layouts.specs.CommandPlaces.{commands_from, command_at, place_after, commands_step, commands_end}
 use Rattle.answer_reader.specs.Fits.{Fits}
-use Rattle.answer_reader.specs.FoundInBytes.{factors_from, product_of, FactorOf, GrownBy, MultipliedAt, ProductOf}
+use Rattle.answer_reader.specs.FoundInBytes.{factors_from, product_of, value, FactorOf, GrownBy, MultipliedAt, ProductOf}
 
 abbrev 𝓐 : (n : ℕ) → CommRing (ℤ[x]/ n)
 𝓐 n = 𝓩[x]/ n
@@ -53,15 +53,14 @@ module _ (bytes : List ℕ) (p : ℕ) where
 
   -- ---- one command
 
-  module _ (at : ℕ) (a : List ℕ) (d : ℕ) where
+  module _ (at : ℕ) (a : MonicPoly) where
     abbrev after : List Poly
     after = factors_from bytes (place_after bytes at)
 
     -- no other command lists anything
-    pub multiplied_other : at < length bytes → get_or bytes at 0 ≢ 0x12 → MonicArray n d a
-        → MultipliedAt bytes at p a d (Some (record { degree = d; coefs = a }))
+    pub multiplied_other : at < length bytes → get_or bytes at 0 ≢ 0x12 → a.n ≡ n → MultipliedAt bytes at p a (Some a)
     multiplied_other l h m = record {
-      sound = (m, ap (λ (L : List Poly). d + degree_sum L) same, ap (λ (L : List Poly). poly n a · product_of n L) same);
+      sound = (m, ap (λ (L : List Poly). a.degree + degree_sum L) same, ap (λ (L : List Poly). value n a · product_of n L) same);
       exact = λ f room. refl;
     }
       where
@@ -71,28 +70,26 @@ module _ (bytes : List ℕ) (p : ℕ) where
             ∙ factors_past (command_at bytes at ∷ []) (commands_from bytes (place_after bytes at))
             (all_cons (ne_eqb (get_or bytes at 0) 0x12 h) (λ c i. elim i [ ])))
 
-    pub factor_missing : FactorOf bytes at p None → MultipliedAt bytes at p a d None
+    pub factor_missing : FactorOf bytes at p None → MultipliedAt bytes at p a None
     factor_missing h = record { sound = tt; exact = λ fit room. h.exact fit }
 
     module _ {f : Factor} (h : FactorOf bytes at p (Some f)) where
-      monic : MonicArray n f.degree f.coefs
-      monic = h.sound.0
+      monic : MonicArray n f.poly.degree f.poly.coefs
+      monic = rw h.sound.0 at f.poly.monic
 
-      weight : degree_sum (factors_from bytes at) ≡ f.degree * f.times + degree_sum after
+      weight : degree_sum (factors_from bytes at) ≡ f.poly.degree * f.times + degree_sum after
       weight = ap degree_sum h.sound.1 ∙ copies_degree monic after f.times
 
-      value : product_of n (factors_from bytes at) ≡ pow (𝓐 n) (poly n f.coefs) f.times · product_of n after
-      value = ap (product_of n) h.sound.1 ∙ copies_product monic after f.times
+      listed_value : product_of n (factors_from bytes at) ≡ pow (𝓐 n) (value n f.poly) f.times · product_of n after
+      listed_value = ap (product_of n) h.sound.1 ∙ copies_product monic after f.times
 
-      grown_sound : (r : Option Grown) → GrownBy n a d f.coefs f.degree f.times r → MultipliedAt bytes at p a d r
-      grown_sound None g = record { sound = tt; exact = λ fit room. g.exact (omega (arith, weight)) }
-      grown_sound (Some r) g =
-          let (array, degree_is_lem, is) = g.sound in
-          let multiplies = ap (λ c. c · product_of n after) is ∙ (𝓐 n).*_assoc _ _ _ ∙ ap (λ c. poly n a · c) (sym value) in
-          record { sound = (array, omega (arith, degree_is_lem, weight), multiplies); exact = λ fit room. refl }
-
-      pub multiplied_by : {modulus : ℕ} {r : Option Grown} → modulus ≡ n → GrownBy modulus a d f.coefs f.degree f.times r → MultipliedAt bytes at p a d r
-      multiplied_by {modulus} {r} e g = grown_sound r (rw e at g)
+      pub multiplied_by : a.n ≡ n → (r : Option MonicPoly) → GrownBy a f r → MultipliedAt bytes at p a r
+      multiplied_by m None g = record { sound = tt; exact = λ fit room. g.exact (omega (arith, weight)) }
+      multiplied_by m (Some r) g =
+          let (modulus, degree_is, is) = g.sound in
+          let power : value n r ≡ value n a · pow (𝓐 n) (value n f.poly) f.times = rw m at is in
+          let multiplies = ap (λ c. c · product_of n after) power ∙ (𝓐 n).*_assoc _ _ _ ∙ ap (λ c. value n a · c) (sym listed_value) in
+          record { sound = (modulus ∙ m, omega (arith, degree_is, weight), multiplies); exact = λ fit room. refl }
 
   -- ---- the loop
 
@@ -113,26 +110,25 @@ module _ (bytes : List ℕ) (p : ℕ) where
     left = λ f. f;
   }
 
-  module _ {coefs : List ℕ} {degree at : ℕ} (w : Multiplying coefs degree at) where
-    pub product_found : length bytes ≤ at → ProductOf bytes p (Some (record { degree = degree; coefs = coefs }))
-    product_found l = record { sound = (w.array, is); exact = λ f room. refl }
-      where
-        is : poly n coefs ≡ product_of n (factor_list bytes)
-        is =
-            sym (mul_one (𝓐 n) (poly n coefs))
-            ∙ ap (λ a. poly n coefs · a)
-            (sym (ap (λ cs. product_of n (factors_in cs)) (commands_end bytes at l) ∙ (unfold factors_in in product_nil (𝓐 n))))
-            ∙ w.multiplies
+  pub product_found : {g : MonicPoly} {at : ℕ} → Multiplying g.coefs g.degree at → g.n ≡ n → length bytes ≤ at → ProductOf bytes p (Some g)
+  product_found {g} {at} w m l = record { sound = (m, is); exact = λ f room. refl }
+    where
+      is : value n g ≡ product_of n (factor_list bytes)
+      is =
+          sym (mul_one (𝓐 n) (value n g))
+          ∙ ap (λ a. value n g · a)
+          (sym (ap (λ cs. product_of n (factors_in cs)) (commands_end bytes at l) ∙ (unfold factors_in in product_nil (𝓐 n))))
+          ∙ w.multiplies
 
-    module _ (l : at < length bytes) where
-      pub given_up : MultipliedAt bytes at p coefs degree None → ProductOf bytes p None
-      given_up h = record { sound = tt; exact = λ f room. h.exact (w.left f) (omega (arith, w.degrees)) }
+  module _ {a : MonicPoly} {at : ℕ} (w : Multiplying a.coefs a.degree at) (l : at < length bytes) where
+    pub given_up : MultipliedAt bytes at p a None → ProductOf bytes p None
+    given_up h = record { sound = tt; exact = λ f room. h.exact (w.left f) (omega (arith, w.degrees)) }
 
-      pub multiplying_more : {r : Grown} → MultipliedAt bytes at p coefs degree (Some r) → {k : ℕ} → k ≡ operand_count (get_or bytes at 0)
-          → Multiplying r.coefs r.degree (at + (1 + k))
-      multiplying_more h {k} e = let (m, deg, is) = h.sound in rw e (record {
-        array = m;
-        degrees = deg ∙ w.degrees;
-        multiplies = is ∙ w.multiplies;
-        left = λ f. (rw (commands_step bytes at l) at (w.left f)).1;
-      })
+    pub multiplying_more : {r : MonicPoly} → MultipliedAt bytes at p a (Some r) → {k : ℕ} → k ≡ operand_count (get_or bytes at 0)
+        → Multiplying r.coefs r.degree (at + (1 + k))
+    multiplying_more {r} h {k} e = let (m, deg, is) = h.sound in rw e (record {
+      array = rw m at r.monic;
+      degrees = deg ∙ w.degrees;
+      multiplies = is ∙ w.multiplies;
+      left = λ f. (rw (commands_step bytes at l) at (w.left f)).1;
+    })

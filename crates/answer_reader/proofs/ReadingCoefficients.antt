@@ -17,7 +17,8 @@ use Rattle.specification.specs.Commands.{Command, operand_count}
 use Rattle.specification.specs.Coefficients.{is_coefficient, given_index, given_value}
 use Rattle.specification.specs.FactorList.{with_coefficients}
 use Rattle.arrays.specs.Listed.{listed, listed_set}
-use Rattle.arrays.specs.Held.{Held, leads_monic, held_set}
+use Rattle.arrays.specs.declared.MonicPoly.{MonicPoly}
+use Rattle.arrays.specs.Held.{Held, MonicArray, leads_monic, held_set}
 use Rattle.arrays.specs.MonomialArray.{IsMonomial, monomial_leads, monomial_held}
 use Rattle.layouts.specs.CommandsReadBack.{NoCoefficient, written_none, written_more}
 use Rattle.answer_reader.specs.declared.Coefficient.{Coefficient}
@@ -67,8 +68,9 @@ module _ (bytes : List ℕ) (at : ℕ) (one : is_coefficient (command_at bytes a
   unfolding operand_count first
   has_two e = rw e (lit< tt)
 
-  pub value_of_two : code ≡ 0x05 → get_or bytes (at + 2) 0 + 256 * get_or bytes (at + 3) 0 ≡ given_value (command_at bytes at)
-  value_of_two e = sym (ap₂ (λ (low high : ℕ). low + 256 * high) (value_at_lem 0 (omega (arith, has_two e))) (value_at_lem 1 (omega (arith, has_two e))))
+  pub value_of_two : code ≡ 0x05 → get_or bytes (at + 2) 0 + get_or bytes (at + 3) 0 * 256 ≡ given_value (command_at bytes at)
+  value_of_two e =
+      omega (arith, ap₂ (λ (low high : ℕ). low + 256 * high) (value_at_lem 0 (omega (arith, has_two e))) (value_at_lem 1 (omega (arith, has_two e))))
 
   -- and one under 0x03
   pub value_of_one : code ≢ 0x05 → get_or bytes (at + 2) 0 ≡ given_value (command_at bytes at)
@@ -132,20 +134,24 @@ module _ (bytes : List ℕ) (at d p : ℕ) where
   }
 
   module _ {coefs : List ℕ} {next : ℕ} (w : Underway coefs next) where
-    found : NoCoefficient (commands_from bytes next) → CoefficientsOf bytes at d p (Some coefs)
-    found o = record {
-      sound = (leads_monic w.held w.top, sym (written_none (listed d coefs) (commands_from bytes next) o) ∙ w.is);
-      exact = λ f. refl;
-    }
+    pub underway_monic : MonicArray (p ²) d coefs
+    underway_monic = leads_monic w.held w.top
 
-    -- the bytes end, or another command comes
-    pub found_at_end : length bytes ≤ next → CoefficientsOf bytes at d p (Some coefs)
-    found_at_end l = found (rw (commands_end bytes next l) tt)
+    module _ {f : MonicPoly} (m : f.n ≡ p ²) (deg : f.degree ≡ d) (e : f.coefs ≡ coefs) where
+      found : NoCoefficient (commands_from bytes next) → CoefficientsOf bytes at d p (Some f)
+      found o = record {
+        sound = (m, deg, ap (listed d) e ∙ sym (written_none (listed d coefs) (commands_from bytes next) o) ∙ w.is);
+        exact = λ f. refl;
+      }
+
+      -- the bytes end, or another command comes
+      pub found_at_end : length bytes ≤ next → CoefficientsOf bytes at d p (Some f)
+      found_at_end l = found (rw (commands_end bytes next l) tt)
+
+      pub found_before : next < length bytes → is_coefficient (command_at bytes next) ≡ false → CoefficientsOf bytes at d p (Some f)
+      found_before l h = found (rw (commands_step bytes next l) h)
 
     module _ (l : next < length bytes) where
-      pub found_before : is_coefficient (command_at bytes next) ≡ false → CoefficientsOf bytes at d p (Some coefs)
-      found_before h = found (rw (commands_step bytes next l) h)
-
       module _ (is_one : is_coefficient (command_at bytes next) ≡ true) where
         -- the next command fits, and so do those after it
         next_fits : CoefficientsFit d (p ²) (commands_from bytes at)

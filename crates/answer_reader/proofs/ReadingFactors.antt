@@ -11,6 +11,7 @@ use Rattle.specification.specs.Limits.{degree_limit, ◌²}
 use Rattle.specification.specs.Polynomials.{monomial}
 use Rattle.specification.specs.Commands.{Command, operand}
 use Rattle.specification.specs.FactorList.{with_coefficients, factors_in}
+use Rattle.arrays.specs.declared.MonicPoly.{MonicPoly}
 use Rattle.arrays.specs.Listed.{listed}
 use Rattle.layouts.specs.CommandPlaces.{commands_from, command_at, place_after, commands_step, operands_there, factor_degree, factor_times, factor_after}
 use Rattle.answer_reader.specs.Fits.{CoefficientsFit, FactorFits, Fits}
@@ -42,13 +43,13 @@ module _ (bytes : List ℕ) (at p : ℕ) (code : get_or bytes at 0 ≡ 0x12) (l 
   pub not_read : CoefficientsOf bytes (at + 3) (get_or bytes (at + 1) 0) p None → FactorOf bytes at p None
   not_read h = record { sound = tt; exact = λ f. h.exact (coefficients_fit f) }
 
-  pub factor_read : {coefs : List ℕ} → CoefficientsOf bytes (at + 3) (get_or bytes (at + 1) 0) p (Some coefs)
-      → FactorOf bytes at p (Some (record { times = get_or bytes (at + 2) 0; degree = get_or bytes (at + 1) 0; coefs = coefs }))
-  factor_read {coefs} h = record { sound = (h.sound.0, copies h.sound.1); exact = λ f. refl }
+  pub factor_read : {f : MonicPoly} → CoefficientsOf bytes (at + 3) (get_or bytes (at + 1) 0) p (Some f)
+      → FactorOf bytes at p (Some (record { times = get_or bytes (at + 2) 0; poly = f }))
+  factor_read {f} h = record { sound = (h.sound.0, copies (ap (λ (d : ℕ). listed d f.coefs) h.sound.1 ∙ h.sound.2)); exact = λ f. refl }
     where
-      copies : listed (get_or bytes (at + 1) 0) coefs ≡ with_coefficients (monomial (get_or bytes (at + 1) 0)) (commands_from bytes (at + 3))
+      copies : listed f.degree f.coefs ≡ with_coefficients (monomial (get_or bytes (at + 1) 0)) (commands_from bytes (at + 3))
           → factors_in (commands_from bytes at)
-          ≡ replicate (get_or bytes (at + 2) 0) (listed (get_or bytes (at + 1) 0) coefs) ++ factors_in (commands_from bytes (place_after bytes at))
+          ≡ replicate (get_or bytes (at + 2) 0) (listed f.degree f.coefs) ++ factors_in (commands_from bytes (place_after bytes at))
       copies e =
           ap factors_in (commands_step bytes at l)
           ∙ factors_here (command_at bytes at) (commands_from bytes (place_after bytes at)) code

@@ -15,13 +15,13 @@ use Rattle.algebra.specs.Divisibility.{pow, product}
 use Rattle.algebra.specs.PolynomialRing.{◌·◌}
 use Rattle.algebra.specs.CoefficientLists.{ℤ[x]/, poly, 𝓩[x]/}
 use Rattle.arrays.specs.Listed.{listed}
-use Rattle.arrays.specs.Held.{MonicModSquare, MonicArray}
+use Rattle.arrays.specs.declared.MonicPoly.{MonicPoly}
+use Rattle.arrays.specs.Held.{MonicModSquare}
 use Rattle.layouts.specs.CommandsReadBack.{Without}
 use Rattle.commands.specs.AsSheet.{as_sheet}
 use Rattle.commands.specs.declared.Sheet.{Sheet}
 use Rattle.answer_reader.specs.declared.Coefficient.{Coefficient}
 use Rattle.answer_reader.specs.declared.Factor.{Factor}
-use Rattle.answer_reader.specs.declared.Grown.{Grown}
 use Rattle.layouts.specs.CommandPlaces.{commands_from, command_at, place_after}
 use Rattle.answer_reader.specs.Fits.{CoefficientFits, CoefficientsFit, Fits}
 
@@ -47,9 +47,9 @@ pub record CoefficientOf (bytes : List ℕ) (at d p : ℕ) (r : Option Coefficie
       × (c.value ≡ given_value (command_at bytes at)))
   pub exact : CoefficientFits d (p ²) (command_at bytes at) → IsSome r
 
--- the polynomial of degree d whose coefficients are written from a place on
-pub record CoefficientsOf (bytes : List ℕ) (at d p : ℕ) (r : Option (List ℕ)) : Type 0 where
-  pub sound : IfSome r (λ coefs. MonicArray (p ²) d coefs × (listed d coefs ≡ with_coefficients (monomial d) (commands_from bytes at)))
+-- the polynomial of degree d, modulo p², whose coefficients are written from a place on
+pub record CoefficientsOf (bytes : List ℕ) (at d p : ℕ) (r : Option MonicPoly) : Type 0 where
+  pub sound : IfSome r (λ f. (f.n ≡ p ²) × (f.degree ≡ d) × (listed d f.coefs ≡ with_coefficients (monomial d) (commands_from bytes at)))
   pub exact : CoefficientsFit d (p ²) (commands_from bytes at) → IsSome r
 
 -- the list of the commands from a place on
@@ -59,8 +59,8 @@ factors_from bytes at = factors_in (commands_from bytes at)
 -- the factor at a place, with its repeats
 pub record FactorOf (bytes : List ℕ) (at p : ℕ) (r : Option Factor) : Type 0 where
   pub sound : IfSome r (λ f.
-      MonicArray (p ²) f.degree f.coefs
-      × (factors_from bytes at ≡ replicate f.times (listed f.degree f.coefs) ++ factors_from bytes (place_after bytes at)))
+      (f.poly.n ≡ p ²)
+      × (factors_from bytes at ≡ replicate f.times (listed f.poly.degree f.poly.coefs) ++ factors_from bytes (place_after bytes at)))
   pub exact : Fits (p ²) (commands_from bytes at) → IsSome r
 
 -- ---- the product
@@ -69,24 +69,30 @@ pub record FactorOf (bytes : List ℕ) (at p : ℕ) (r : Option Factor) : Type 0
 abbrev pub product_of : (n : ℕ) → List Poly → ℤ[x]/ n
 product_of n L = product (𝓩[x]/ n) (map (poly n) L)
 
--- a times b to the t, where it has room
-pub record GrownBy (n : ℕ) (a : List ℕ) (d : ℕ) (b : List ℕ) (e t : ℕ) (r : Option Grown) : Type 0 where
+-- the polynomial modulo n that is held
+abbrev pub value : (n : ℕ) → MonicPoly → ℤ[x]/ n
+value n a = poly n a.coefs
+
+-- a times a factor with its repeats, where it has room
+pub record GrownBy (a : MonicPoly) (f : Factor) (r : Option MonicPoly) : Type 0 where
   pub sound : IfSome r (λ g.
-      MonicArray n g.degree g.coefs × (g.degree ≡ d + e * t) × (poly n g.coefs ≡ poly n a · pow (𝓩[x]/ n) (poly n b) t))
-  pub exact : d + e * t ≤ degree_limit → IsSome r
+      (g.n ≡ a.n)
+      × (g.degree ≡ a.degree + f.poly.degree * f.times)
+      × (value a.n g ≡ value a.n a · pow (𝓩[x]/ a.n) (value a.n f.poly) f.times))
+  pub exact : a.degree + f.poly.degree * f.times ≤ degree_limit → IsSome r
 
 -- a times what the command at a place lists: with what is listed after it, as much as a with what is listed from there on
-pub record MultipliedAt (bytes : List ℕ) (at p : ℕ) (a : List ℕ) (d : ℕ) (r : Option Grown) : Type 0 where
+pub record MultipliedAt (bytes : List ℕ) (at p : ℕ) (a : MonicPoly) (r : Option MonicPoly) : Type 0 where
   pub sound : IfSome r (λ g.
       let after : List Poly = factors_from bytes (place_after bytes at) in
-      MonicArray (p ²) g.degree g.coefs
-      × (g.degree + degree_sum after ≡ d + degree_sum (factors_from bytes at))
-      × (poly (p ²) g.coefs · product_of (p ²) after ≡ poly (p ²) a · product_of (p ²) (factors_from bytes at)))
-  pub exact : Fits (p ²) (commands_from bytes at) → d + degree_sum (factors_from bytes at) ≤ degree_limit → IsSome r
+      (g.n ≡ p ²)
+      × (g.degree + degree_sum after ≡ a.degree + degree_sum (factors_from bytes at))
+      × (value (p ²) g · product_of (p ²) after ≡ value (p ²) a · product_of (p ²) (factors_from bytes at)))
+  pub exact : Fits (p ²) (commands_from bytes at) → a.degree + degree_sum (factors_from bytes at) ≤ degree_limit → IsSome r
 
 -- the product of the bytes' list
-pub record ProductOf (bytes : List ℕ) (p : ℕ) (r : Option Grown) : Type 0 where
-  pub sound : IfSome r (λ g. MonicArray (p ²) g.degree g.coefs × (poly (p ²) g.coefs ≡ product_of (p ²) (factor_list bytes)))
+pub record ProductOf (bytes : List ℕ) (p : ℕ) (r : Option MonicPoly) : Type 0 where
+  pub sound : IfSome r (λ g. (g.n ≡ p ²) × (value (p ²) g ≡ product_of (p ²) (factor_list bytes)))
   pub exact : Fits (p ²) (commands bytes) → degree_sum (factor_list bytes) ≤ degree_limit → IsSome r
 
 -- ---- the sheet

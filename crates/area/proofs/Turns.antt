@@ -1,6 +1,7 @@
 -- A loop that writes, `Turns bytes piece n whole`: of n turns, `bytes i` is what i have written and `piece i` what the next one adds; all is `whole`.
--- `Written` is the loop's invariant. Proves that it holds before the first turn, that the next piece has room, that it holds after one turn
--- more, and that it ends with all; and what the turns are where a loop writes something for each entry of a list. Assumes nothing.
+-- `Written` is the loop's invariant, and `Putting` that of a loop that writes through a cursor. Proves that they hold before the first turn, that the next
+-- piece has room, that they hold after one turn more, and that they end with all; and what the turns are where a loop writes something for each entry of a
+-- list. Assumes nothing.
 use mathlib.Core.Path.{◌≡◌, refl, sym, ◌∙◌, ap, subst}
 use mathlib.Core.List.{List, [], ◌++◌, flat_map}
 use Prim.Native.Nat.{ℕ, zero, suc, ◌+◌, ◌≤◌, ◌<◌, ◌-◌, zero-le}
@@ -9,7 +10,9 @@ use native.Mathlib.Omega.{arith}
 use lib.ListN.{length, get_or, take}
 use lib.Seq.{take-length}
 use Rattle.lists.specs.FlatMaps.{flat_map_next}
+use Rattle.area.specs.declared.Cursor.{Cursor}
 use Rattle.area.specs.Wrote.{Wrote, Room, wrote_none, wrote_more, wrote_as, room_as, room_first, room_next}
+use Rattle.area.specs.Cursors.{Fits, Puts}
 
 pub record Turns (bytes piece : ℕ → List ℕ) (n : ℕ) (whole : List ℕ) : Type 0 where
   pub none : bytes 0 ≡ []
@@ -39,6 +42,34 @@ module _ {bytes piece : ℕ → List ℕ} {n : ℕ} {whole : List ℕ} (turns : 
 
     pub written_done : n ≤ i → Wrote old new at whole after
     written_done l = wrote_as (ap bytes (let q : i ≡ n = omega (arith, w.within) in q) ∙ turns.all) w.wrote
+
+-- ---- through a cursor
+
+-- i turns of n have written their bytes from the cursor's first place on
+pub record Putting (bytes : ℕ → List ℕ) (n : ℕ) (old new : Cursor) (i : ℕ) : Type 0 where
+  pub puts : Puts old new (bytes i)
+  pub within : i ≤ n
+
+module _ {bytes piece : ℕ → List ℕ} {n : ℕ} {whole : List ℕ} (turns : Turns bytes piece n whole) {old : Cursor} where
+  -- there is room for all bytes
+  pub putting_none : Fits old whole → Putting bytes n old old 0
+  putting_none r = record { puts = record { wrote = (written_none turns r.room).wrote; same = refl; pointer = refl }; within = zero-le }
+
+  module _ {new : Cursor} {i : ℕ} (w : Putting bytes n old new i) where
+    written : Written bytes n old.area.now new.area.now old.at new.at i
+    written = record { wrote = w.puts.wrote; within = w.within }
+
+    pub putting_room : i < n → Fits old whole → Fits new (piece i)
+    putting_room l r = record { room = written_room turns written l r.room }
+
+    pub putting_more : i < n → {newer : Cursor} → Puts new newer (piece i) → Putting bytes n old newer (i + 1)
+    putting_more l v = let u = written_more turns written l v.wrote in record {
+      puts = record { wrote = u.wrote; same = v.same ∙ w.puts.same; pointer = v.pointer ∙ w.puts.pointer };
+      within = u.within;
+    }
+
+    pub putting_done : n ≤ i → Puts old new whole
+    putting_done l = record { wrote = written_done turns written l; same = w.puts.same; pointer = w.puts.pointer }
 
 -- ---- the entries of a list, g of each; d is what is read past the list's end
 

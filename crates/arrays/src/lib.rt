@@ -1,4 +1,5 @@
-// Arrays of 33 coefficients, constant first: their type, the powers of x, how many terms there are, a bound of all entries, and whether two are equal.
+// Arrays of 33 coefficients, constant first: their type, monic polynomials, the powers of x, how many terms there are, a bound of all entries, and whether two
+// are equal.
 // What they hold as polynomials is in specs/. All is public for the crates above, and no entry point of the library.
 #![tactic(auto)]
 
@@ -7,10 +8,33 @@ ghost use Rattle.specification.specs.Lists.{all_pass};
 ghost use Rattle.lists.specs.Decides.{Decides};
 ghost use Rattle.arrays.specs.Represents.{ZeroFrom};
 ghost use Rattle.arrays.specs.Sizes.{Size};
+ghost use Rattle.arrays.specs.Held.{MonicArray};
 ghost use Rattle.arrays.specs.MonomialArray.{IsMonomial};
 
 // The coefficients of a polynomial of degree 32 at most.
 pub type Coefs = [u16; 33];
+
+// A monic polynomial modulo n, of the degree given.
+#[derive(Clone, Copy)]
+pub struct MonicPoly {
+    pub coefs: Coefs,
+    pub degree: usize,
+    pub n: u16,
+    pub ghost monic: { MonicArray n degree coefs },
+}
+
+// 1 modulo 2, for the places of a vector that hold nothing.
+impl Default for MonicPoly {
+    ghost is_default = { λ q. (q.n ≡ 2) × (q.degree ≡ 0) × IsMonomial 0 q.coefs };
+
+    fn default() -> MonicPoly {
+        MonicPoly {
+            coefs: monomial(0),
+            degree: 0,
+            n: 2,
+        }
+    }
+}
 
 // x to the power i: "leading coefficient 1, the rest 0".
 pub fn monomial(i: usize) -> Coefs

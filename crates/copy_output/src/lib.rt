@@ -7,7 +7,7 @@ ghost use Rattle.specification.specs.Limits.{answer_area};
 ghost use Rattle.specification.specs.Text.{copied};
 ghost use Rattle.area.specs.Wrote.{Wrote};
 
-use split_text::refusal_text;
+use split_text::outcome_text;
 use splitter::copy;
 
 // For any bytes, a sheet or not, from the start of the area on.
@@ -16,8 +16,5 @@ pub fn write_output(out: &mut [u8], sheet: &[u8]) -> usize
     ensures { Wrote out.old out.new 0 (copied sheet.now) result }
 {
     let called = copy(sheet, out);
-    if called.number != 0 {
-        return refusal_text(out, called.number, 0);
-    }
-    called.count
+    outcome_text(out, called)
 }

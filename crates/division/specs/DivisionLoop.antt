@@ -1,13 +1,17 @@
 -- Division of arrays by an array that a unit makes monic (`MonicBy`): `DividedBy`, what holds of quotient and remainder; the loop of `divide_in_place`.
--- Proves that the loop, which takes the highest term away turn by turn, ends as it should, and what a division that comes out even gives. Assumes nothing.
+-- Proves that the loop, which takes the highest term away turn by turn, ends as it should, what a division that comes out even gives, and that of monic
+-- polynomials it gives a monic one. Assumes nothing.
 use Rattle.std.specs.Prelude.{◌≡◌, List, ℕ, suc, ◌≤◌, ◌<◌, ◌-◌, ◌%◌, ◌+◌, ◌*◌, get_or, set, replicate}
 use Rattle.std.proofs.Common.{sym, ◌∙◌, ap, ap₂, arith, get_or-set_other}
 use Rattle.std.proofs.Math.Nat.{sub-zero, mod_self}
 use Rattle.algebra.specs.Ring.{add_zero}
+use Rattle.algebra.specs.Divisibility.{◌∣◌}
 use Rattle.algebra.specs.Identities.{con, ◌⊕◌, ◌⊖◌, ◌⊗◌, ◌≈◌, solve}
 use Rattle.algebra.specs.Residues.{residue, residue_mul, residue_mod}
 use Rattle.algebra.specs.PolynomialRing.{◌+ᴿ◌, ◌·◌, -ᴿ◌, 𝟎, constant, constant_mul}
 use Rattle.algebra.specs.Degree.{Below, Monic, below_𝟎, below_up, monic_mul_lem, monic_pow_x}
+use Rattle.algebra.specs.Leading.{monic_cofactor}
+use Rattle.algebra.specs.Fields.{residue_discrete, residue_nontrivial}
 use Rattle.algebra.specs.Division.{below_top, divided_unique}
 use Rattle.algebra.specs.CoefficientLists.{ℤ[x]/, poly, Reduced, coef_poly, 𝓩[x]/}
 use Rattle.algebra.specs.ListShapes.{get_d_zeros}
@@ -109,3 +113,26 @@ module _ (n : ℕ) (a b : List ℕ) where
       → (poly n q ≡ k) × (poly n r ≡ 𝟎)
   divided_exactly {d} {q} {r} m h k e =
       divided_unique m (poly n q) (poly n r) k 𝟎 h.small (below_𝟎 d) (h.law ∙ sym e ∙ sym (add_zero (𝓩[x]/ n) (k · poly n b)))
+
+  -- b divides a
+  module _ {e : ℕ} {q r : List ℕ} (monic : Monic e (poly n b)) (divides : ◌∣◌ (𝓩[x]/ n) (poly n b) (poly n a)) (h : DividedBy n a b e q r) where
+    multiplies : poly n q · poly n b ≡ poly n a
+    multiplies = ap (λ c. c · poly n b) (divided_exactly monic h divides.0 divides.1).0 ∙ divides.1
+
+    pub exact_division : DividedBy n a b e q (replicate 33 0)
+    exact_division = record {
+      quotient = h.quotient;
+      remainder = nothing.reduced;
+      law = ap (λ r. poly n q · poly n b +ᴿ r) nothing.is ∙ add_zero (𝓩[x]/ n) (poly n q · poly n b) ∙ multiplies;
+      small = rw nothing.is (below_𝟎 e);
+    }
+      where
+        nothing : Represents n (replicate 33 0) 𝟎
+        nothing = zeros n (omega (arith, h.quotient.low 0))
+
+    pub quotient_monic : {d : ℕ} → 1 < n → Monic d (poly n a) → (e ≤ d) × Monic (d - e) (poly n q)
+    quotient_monic {d} large ma =
+        go (monic_cofactor (residue_discrete n) (residue_nontrivial large) (poly n q) (poly n b) monic (rw multiplies ma))
+      where
+        go : (j : ℕ) × Monic j (poly n q) × (j + e ≡ d) → (e ≤ d) × Monic (d - e) (poly n q)
+        go (j, m, s) = (omega (arith, s), rw (let k : d - e ≡ j = omega (arith, s) in k) m)

@@ -12,7 +12,7 @@ use lib.ListN.{length, get_or}
 use Rattle.specification.specs.Limits.{answer_area, line_limit}
 use Rattle.specification.specs.Calls as calls
 use Rattle.specification.specs.Grammar.{Tree, At, Expression, line}
-use Rattle.specification.specs.TypedLines.{Typed, long_line, no_line, is_line}
+use Rattle.specification.specs.TypedLines.{Typed, no_line, is_line}
 use Rattle.grammar.specs.Machine as machine
 use Rattle.grammar.specs.Machine.{Context, bottom, Fresh, wants, is_digit, step, stuck, after}
 use Rattle.grammar.proofs.Runs as runs
@@ -21,8 +21,9 @@ use Rattle.grammar.proofs.Runs.{PrimeRead}
 use Rattle.grammar.specs.Stopping.{Stopped}
 use Rattle.grammar.proofs.Stopping.{stopped_is}
 use Rattle.line_values.specs.Worth.{Value, Worth}
+use Rattle.primes.specs.declared.TakenPrime.{TakenPrime}
 use Rattle.refusals.specs.declared.Refused.{Refused}
-use Rattle.refusals.specs.declared.Refusal.TheVariants.{NotALine, LineTooLarge}
+use Rattle.refusals.specs.declared.Refusal.TheVariants.{NotALine}
 use Rattle.line_reader.specs.Levels as levels
 use Rattle.line_reader.specs.LineContracts.{ByteAt, Skipped, Counted, HaltsAt, ExpressionStands}
 use Rattle.line_reader.specs.Gives.{Gives, PrimeIn, stand_in, WorkedOut, LineRead}
@@ -79,7 +80,7 @@ module _ {s : List ℕ} where
           at_end = λ e. inr (place - 1, omega (arith, k.blanks.order), k.blanks.all (place - 1) (omega arith) (omega arith));
         })
 
-        pub line_read : (q : Option ℕ) {r : Outcome} → length s ≤ last → p ≡ stand_in q → PrimeIn v q → WorkedOut v q whole r → Read s r
+        pub line_read : (q : Option TakenPrime) {r : Outcome} → length s ≤ last → p ≡ stand_in q → PrimeIn v q → WorkedOut v q whole r → Read s r
         line_read q l m h o short = (
           _,
           is_line (le_refl answer_area) short (line c.stands (between w a b) (ends (omega (arith, t.within)) t.stands)) refl,
@@ -90,9 +91,6 @@ module _ {s : List ℕ} where
             ends {i} {e = e} q w = subst (λ (m : ℕ). Expression s i m e) q w
 
 -- ---- any line
-
-pub too_long : {s : List ℕ} {e : Refused} → line_limit < length s → IsAt LineTooLarge 0 e → LineRead s (Err e)
-too_long l i = record { outcome = calls.refused 16 0; typed = long_line (le_refl answer_area) l refl; gives = gives_refused LineTooLarge refl i }
 
 pub as_read : {s : List ℕ} {r : Outcome} → (o : calls.Outcome) × Typed answer_area s o × Gives r o → LineRead s r
 as_read (o, typed, gives) = record { outcome = o; typed = typed; gives = gives }

@@ -20,8 +20,7 @@ use Rattle.refusals.specs.declared.Refused.{Refused}
 use Rattle.refusals.specs.declared.Refusal.TheVariants.{NotALine}
 use Rattle.line_values.specs.declared.Sign.{Sign}
 use Rattle.line_values.specs.declared.Sign.TheVariants.{Plus, Minus}
-use Rattle.line_values.specs.Worth.{Value, Sound, OfNumber, OfX, OfSum, OfProduct, OfPower}
-use Rattle.line_values.specs.HeldNumbers.{worth_sound}
+use Rattle.line_values.specs.Worth.{Value, OfNumber, OfX, OfSum, OfProduct, OfPower}
 use Rattle.line_reader.specs.declared.Piece.{Piece}
 use Rattle.line_reader.specs.Levels as levels
 use Rattle.line_reader.specs.LineContracts.{
@@ -53,9 +52,6 @@ module _ {G : ℕ → ℕ → Tree → Type 0} {Next : Context → Tree → ℕ 
   stands_to : {next end : ℕ} {r : Value} → end ≡ next → Stands G Next Fits s p at next r → Stands G Next Fits s p at end r
   stands_to {r = r} e w = subst (λ (m : ℕ). Stands G Next Fits s p at m r) (sym e) w
 
-  pub stands_sound : {next : ℕ} {r : Value} → Stands G Next Fits s p at next r → Sound p r
-  stands_sound {r = r} w = worth_sound r w.worth
-
 -- no line goes on at the place of the refusal
 pub halts_at : {Fits : Context → Type 0} {s : List ℕ} {at place : ℕ} {e : Refused} → IsAt NotALine place e → Halts Fits s at place → HaltsAt Fits s at e
 halts_at {Fits} {s} {at} i h = subst (HaltsAt Fits s at) (sym i) (record { number = refl; halts = h })
@@ -73,9 +69,6 @@ halts_from l inner h = record {
 inside : {Fits Inner : Context → Type 0} {s : List ℕ} {at from : ℕ} {e : Refused} → (Halts Inner s from e.place → Halts Fits s at e.place)
     → HaltsAt Inner s from e → HaltsAt Fits s at e
 inside f h = record { number = h.number; halts = f h.halts }
-
-pub halts_first : {s : List ℕ} {at : ℕ} {e : Refused} → HaltsAt Any s at e → HaltsAt NoProduct s at e
-halts_first {at = at} = inside (halts_from (le_refl at) (λ K ok e. (K, tt, e)))
 
 pub halts_product : {s : List ℕ} {at : ℕ} {e : Refused} → HaltsAt NoProduct s at e → HaltsAt Fresh s at e
 halts_product {at = at} = inside (halts_from (le_refl at) (λ K ok e. (K, runs.fresh_no_product K ok, e)))
@@ -138,6 +131,13 @@ after_open a b K e = runs.still (behind b) (runs.wants_blank (bracket K)) (runs.
 pub halts_inner : {s : List ℕ} {at from : ℕ} {e : Refused} → At s at 40 → Skipped s (at + 1) from → HaltsAt Fresh s from e → HaltsAt Any s at e
 halts_inner a b = inside (halts_from (omega (arith, b.blanks.order)) (λ K ok e. (bracket K, tt, after_open a b K e)))
 
+pub halts_term : {s : List ℕ} {at r : ℕ} {q : Refused} → Asks s at → ByteAt s at r → r ≢ 40 → r ≢ 120 → is_digit (get_or s at 0) ≡ false → IsAt NotALine at q
+    → HaltsAt Any s at q
+halts_term {at} a b g h f i = halts_at i (record {
+  from = le_refl at;
+  stopped = λ K ok e. stopped_open a.place e refl refl (no_term K _ f a.sign (λ z. h (b.is ∙ z)) (λ z. g (b.is ∙ z)));
+})
+
 module _ {s : List ℕ} {p : ℕ} where
   pub term_number : {at next v : ℕ} {r : Value} → Counted s at next v × (is_digit (get_or s next 0) ≡ false) → OfNumber p v r → TermStands s p at next r
   term_number c o = record {
@@ -184,13 +184,6 @@ module _ {s : List ℕ} {p : ℕ} where
       where
         still_run : {K : Context} {t : Tree} {i j : ℕ} → Blanks s i j → ExpressionRun K t (after s i) → ExpressionRun K t (after s j)
         still_run w r = record { context = r.context; tree = r.tree; ended = runs.still_ended w r.ended; is = r.is }
-
-  pub halts_term : {at r : ℕ} {q : Refused} → Asks s at p → ByteAt s at r → r ≢ 40 → r ≢ 120 → is_digit (get_or s at 0) ≡ false → IsAt NotALine at q
-      → HaltsAt Any s at q
-  halts_term {at} a b g h f i = halts_at i (record {
-    from = le_refl at;
-    stopped = λ K ok e. stopped_open a.place e refl refl (no_term K _ f a.sign (λ z. h (b.is ∙ z)) (λ z. g (b.is ∙ z)));
-  })
 
 -- ---- factors
 

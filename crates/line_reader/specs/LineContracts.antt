@@ -1,7 +1,6 @@
 -- What the functions that read a line say: of the bytes, by the grammar; of the value, by `Worth`; and where no line goes on, by the machine of the crate
 -- `grammar`, whatever the context in which the reading began. Assumes nothing.
-use Rattle.std.specs.Prelude.{◌≡◌, true, false, ◌≢◌, List, Option, MatchOption, Result, MatchResult, ℕ, ◌+◌, ◌<◌, ◌≤◌, length, get_or}
-use Rattle.specification.specs.Limits.{taken}
+use Rattle.std.specs.Prelude.{◌≡◌, false, ◌≢◌, List, Option, MatchOption, Result, MatchResult, ℕ, ◌+◌, ◌<◌, ◌≤◌, length, get_or}
 use Rattle.specification.specs.Grammar.{Tree, Blanks, Number, Expression, Product, Power, Term, blank_sign, zero_sign, plus_sign, minus_sign}
 use Rattle.grammar.specs.Machine.{Context, State, NoProduct, Fresh, wants, is_digit, step, after, after_term}
 use Rattle.grammar.specs.Stopping.{Stopped}
@@ -110,17 +109,15 @@ ProductTook s = Took (Product s) sums NoProduct s
 abbrev pub ExpressionTook : List ℕ → ℕ → ℕ → Result Piece Refused → Type 0
 ExpressionTook s = Took (Expression s) closing Fresh s
 
--- a place of the line that holds no blank, and a taken prime
-pub record Asks (s : List ℕ) (at p : ℕ) : Type 0 where
+-- a place of the line that holds no blank
+pub record Asks (s : List ℕ) (at : ℕ) : Type 0 where
   pub place : at ≤ length s
   pub sign : get_or s at 0 ≢ blank_sign
-  pub prime : taken p ≡ true
 
 -- a term that ends inside the line, with a value that is reduced
 pub record Raisable (s : List ℕ) (base : Piece) (p : ℕ) : Type 0 where
   pub place : base.end ≤ length s
   pub sound : Sound p base.value
-  pub prime : taken p ≡ true
 
 -- wherever the term began, it is a power with what follows it
 pub record Raises (s : List ℕ) (base : Piece) (p : ℕ) (r : Result Piece Refused) : Type 0 where

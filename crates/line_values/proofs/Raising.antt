@@ -1,6 +1,6 @@
 -- The loop of a power: after i turns the array r is f to the power i modulo n, where f has degree d at most.
 -- Proves it of 1, after one factor more, and how many terms it leaves. Assumes nothing.
-use mathlib.Core.Path.{◌≡◌, sym, ◌∙◌, ap}
+use mathlib.Core.Path.{sym, ◌∙◌, ap}
 use mathlib.Core.List.{List}
 use Prim.Native.Nat.{ℕ, suc, ◌+◌, ◌*◌, ◌<◌, ◌≤◌}
 use native.Mathlib.Nat.{mul-le-mul_right}
@@ -12,10 +12,6 @@ use Rattle.algebra.specs.Degree.{Below, below_pow}
 use Rattle.algebra.specs.CoefficientLists.{𝓩[x]/, poly}
 use Rattle.arrays.specs.Represents.{Represents}
 use Rattle.arrays.specs.MonomialArray.{IsMonomial, monomial_represents}
-
-pub record Raised (n : ℕ) (f : List ℕ) (d i : ℕ) (r : List ℕ) (m : ℕ) : Type 0 where
-  pub power : Represents n r (pow (𝓩[x]/ n) (poly n f) i)
-  pub terms : m ≡ suc (i * d)
 
 pub raised_none : {n : ℕ} (f : List ℕ) {r : List ℕ} → 1 < n → IsMonomial 0 r → Represents n r (pow (𝓩[x]/ n) (poly n f) 0)
 raised_none {n} f large m =

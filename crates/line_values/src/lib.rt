@@ -2,8 +2,8 @@
 // What is public is so for the crate above, and no entry point of the library.
 #![tactic(auto)]
 
-ghost use Rattle.std.specs.Prelude.{◌≡◌, true, suc, ◌≤◌, ◌*◌, Err};
-ghost use Rattle.specification.specs.Limits.{taken, ◌²};
+ghost use Rattle.std.specs.Prelude.{◌≡◌, suc, ◌≤◌, ◌*◌, Err};
+ghost use Rattle.specification.specs.Limits.{◌²};
 ghost use Rattle.algebra.specs.CoefficientLists.{poly, 𝓩[x]/, Reduced};
 ghost use Rattle.algebra.specs.Divisibility.{pow};
 ghost use Rattle.algebra.specs.Degree.{Below};
@@ -14,6 +14,7 @@ ghost use Rattle.line_values.specs.Worth.{Sound, Both, OfNumber, OfX, OfSum, OfP
 use arrays::Coefs;
 use modular::{difference, product, sum};
 use polynomial::square;
+use primes::TakenPrime;
 use refusals::Refusal;
 
 /// The value of a piece, or 16 or 17: the number that turns the line back, but only once it is read whole.
@@ -38,15 +39,14 @@ fn both(a: Value, b: Value) -> Result<(Coefs, Coefs), Refusal>
 
 // A number as a term, "taken modulo p²"; 16 if it is "over 65,535".
 #[tactic(auto, using(crate::proofs::Pieces::number_large, crate::proofs::Pieces::number_small, algebra::specs::TakenPrimes::square_above_one))]
-pub fn of_number(v: u32, p: u8) -> Value
-    requires { taken p ≡ true }
-    ensures { OfNumber p v result }
+pub fn of_number(v: u32, p: TakenPrime) -> Value
+    ensures { OfNumber p.value v result }
 {
     if 65535 < v {
         return Err(Refusal::LineTooLarge);
     }
     let mut coefs = [0u16; 33];
-    coefs[0] = (v % u32::from(square(p))) as u16;
+    coefs[0] = (v % u32::from(square(p.value))) as u16;
     Ok(coefs)
 }
 
@@ -67,22 +67,22 @@ pub enum Sign {
 
 // a + b or, after a minus, a - b.
 #[tactic(auto, using(crate::proofs::Sums::sum_with, crate::proofs::Sums::difference_with, algebra::specs::TakenPrimes::square_above_one))]
-pub fn of_sum(sign: Sign, a: Value, b: Value, p: u8) -> Value
-    requires { (taken p ≡ true) × Sound p a × Sound p b }
-    ensures { OfSum p sign a b result }
+pub fn of_sum(sign: Sign, a: Value, b: Value, p: TakenPrime) -> Value
+    requires { Sound p.value a × Sound p.value b }
+    ensures { OfSum p.value sign a b result }
 {
     let (f, g) = both(a, b)?;
     match sign {
-        Sign::Plus => Ok(sum(f, g, square(p))),
-        Sign::Minus => Ok(difference(f, g, square(p))),
+        Sign::Plus => Ok(sum(f, g, square(p.value))),
+        Sign::Minus => Ok(difference(f, g, square(p.value))),
     }
 }
 
 // a·b; 17 where neither is zero and their degrees add to more than 32.
 #[tactic(auto, using(crate::proofs::Products::product_high, crate::proofs::Products::product_with))]
-pub fn of_product(a: Value, b: Value, p: u8) -> Value
-    requires { (taken p ≡ true) × Sound p a × Sound p b }
-    ensures { OfProduct p a b result }
+pub fn of_product(a: Value, b: Value, p: TakenPrime) -> Value
+    requires { Sound p.value a × Sound p.value b }
+    ensures { OfProduct p.value a b result }
 {
     let (f, g) = both(a, b)?;
     let s = arrays::size(f);
@@ -90,15 +90,15 @@ pub fn of_product(a: Value, b: Value, p: u8) -> Value
     if 34 < s + t {
         return Err(Refusal::NoPattern);
     }
-    Ok(product(f, s, g, t, square(p)))
+    Ok(product(f, s, g, t, square(p.value)))
 }
 
 // f to the power e, where f has degree d at most.
-fn power(f: Coefs, d: usize, e: usize, p: u8) -> Coefs
-    requires { (taken p ≡ true) × Reduced (p ²) 33 f × (d ≤ 32) × Below (suc d) (poly (p ²) f) × (e * d ≤ 32) }
-    ensures { Represents (p ²) result (pow (𝓩[x]/ (p ²)) (poly (p ²) f) e) }
+fn power(f: Coefs, d: usize, e: usize, p: TakenPrime) -> Coefs
+    requires { Reduced (p.value ²) 33 f × (d ≤ 32) × Below (suc d) (poly (p.value ²) f) × (e * d ≤ 32) }
+    ensures { Represents (p.value ²) result (pow (𝓩[x]/ (p.value ²)) (poly (p.value ²) f) e) }
 {
-    let n = square(p);
+    let n = square(p.value);
     let mut r = arrays::monomial(0);
     for i in 0..e {
         let next = product(f, d + 1, r, i * d + 1, n);
@@ -109,9 +109,9 @@ fn power(f: Coefs, d: usize, e: usize, p: u8) -> Coefs
 
 // a to the power e; 16 if e is "over 32", 17 where the degree of a, e times, is more than 32.
 #[tactic(auto, using(crate::proofs::Powers::power_large, crate::proofs::Powers::power_high, crate::proofs::Powers::power_with))]
-pub fn of_power(a: Value, e: u32, p: u8) -> Value
-    requires { (taken p ≡ true) × Sound p a }
-    ensures { OfPower p a e result }
+pub fn of_power(a: Value, e: u32, p: TakenPrime) -> Value
+    requires { Sound p.value a }
+    ensures { OfPower p.value a e result }
 {
     if 32 < e {
         return Err(Refusal::LineTooLarge);

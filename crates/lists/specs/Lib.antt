@@ -19,5 +19,6 @@ pub mod MappedInsertion
 pub mod Places
 pub mod Entries
 pub mod LentParts
+pub mod Placing
 pub mod Shifting
 pub mod Stack

@@ -1,20 +1,22 @@
 -- The search of `least_dependency`: `Images p count d images`, what it is given; `DependencyFound`, what it finds; its loop, `Searching`: the rows span the
--- images of x^first, .., x^(i − 1), and these are independent.
+-- images of x^first, .., x^(i − 1), and these are independent; and `InHand`, with a flag, which no loop has any more: the image of x^i, unless it is
+-- fresh, is reduced to k terms.
 -- Proves that the loop begins so, goes on so, and ends with the least dependency or with none. Assumes nothing.
-use Rattle.std.specs.Prelude.{◌≡◌, List, [], Option, MatchOption, ℕ, suc, ◌<◌, ◌≤◌, ◌-◌, ◌+◌, length, get_or, replicate}
-use Rattle.std.proofs.Common.{◌∙◌, le_refl, add-one, arith, sym}
+use Rattle.std.specs.Prelude.{◌≡◌, Bool, true, false, List, [], Option, MatchOption, ℕ, suc, ◌<◌, ◌≤◌, ◌-◌, ◌+◌, length, get_or, replicate}
+use Rattle.std.proofs.Common.{◌∙◌, true≢false, le_refl, add-one, arith, sym}
 use Rattle.std.proofs.lemmas.List.{length-map, length-replicate}
 use Rattle.algebra.specs.PolynomialRing.{𝟎}
 use Rattle.algebra.specs.Degree.{Below, below_zero}
 use Rattle.algebra.specs.Fields.{Prime, prime_pos}
 use Rattle.algebra.specs.CoefficientLists.{ℤ[x]/, poly, Reduced}
+use Rattle.arrays.specs.declared.MonicPoly.{MonicPoly}
+use Rattle.arrays.specs.Held.{MonicArray}
 use Rattle.arrays.specs.Represents.{Represents}
 use Rattle.arrays.specs.Sizes.{Size, below_size, size_small}
 use Rattle.arrays.specs.MonomialArray.{IsMonomial, monomial_represents}
 use Rattle.frobenius.specs.LinearMaps.{apply}
 use Rattle.frobenius.specs.RowReduction.{Between, Stage, reducing_none, reducing_down}
 use Rattle.frobenius.specs.LeastDependency.{LeastDependency, stage_found}
-use Rattle.modp_dependency.specs.declared.Dependency.{Dependency}
 use Rattle.modp_dependency.specs.declared.Row.{Row}
 use Rattle.modp_dependency.specs.StoredRows.{
   poly_at,
@@ -39,19 +41,19 @@ pub record Images (p count d : ℕ) (images : List (List ℕ)) : Type 0 where
   pub small : (k : ℕ) → k < count → Below d (poly_at p images k)
 
 -- a dependency found
-pub record Least (p : ℕ) (images : List (List ℕ)) (first count : ℕ) (r : Dependency) : Type 0 where
-  pub reduced : Reduced p 33 r.v
-  pub above : first ≤ r.degree
-  pub within : r.degree < count
-  pub least : LeastDependency (poly_at p images) count first r.degree (poly p r.v)
+pub record Least (p : ℕ) (images : List (List ℕ)) (first count degree : ℕ) (v : List ℕ) : Type 0 where
+  pub reduced : Reduced p 33 v
+  pub above : first ≤ degree
+  pub within : degree < count
+  pub least : LeastDependency (poly_at p images) count first degree (poly p v)
 
 -- the map is injective on the polynomials with terms of degree first to count − 1
 abbrev pub Independent : (p : ℕ) → List (List ℕ) → ℕ → ℕ → Type 0
 Independent p images first count = (v : ℤ[x]/ p) → Between first count v → apply (poly_at p images) count v ≡ 𝟎 → v ≡ 𝟎
 
 -- and so it is where none is found
-abbrev pub DependencyFound : (p : ℕ) → List (List ℕ) → ℕ → ℕ → Option Dependency → Type 0
-DependencyFound p images first count r = MatchOption r (Independent p images first count) (λ s. Least p images first count s)
+abbrev pub DependencyFound : (p : ℕ) → List (List ℕ) → ℕ → ℕ → Option MonicPoly → Type 0
+DependencyFound p images first count r = MatchOption r (Independent p images first count) (λ s. Least p images first count s.degree s.coefs)
 
 pub record Searching (p : ℕ) (images : List (List ℕ)) (first count d i : ℕ) (rows : List Row) : Type 0 where
   pub above : first ≤ i
@@ -59,6 +61,19 @@ pub record Searching (p : ℕ) (images : List (List ℕ)) (first count d i : ℕ
   pub slots : length rows ≡ 33
   pub reduced : ReducedRows p (row_images rows) × ReducedRows p (row_preimages rows)
   pub stage : Stage (poly_at p images) count d first (poly_at p (row_images rows)) (poly_at p (row_preimages rows)) i
+
+-- the image of x^i is in hand, reduced to k terms, unless it is fresh
+pub record InHand (p : ℕ) (images : List (List ℕ)) (first count d i : ℕ) (rows : List (List ℕ)) (image preimage : List ℕ) (k : ℕ) (fresh : Bool) : Type 0 where
+  pub limit : k ≤ 33
+  pub reduced : fresh ≡ false → ReducedTo p (poly_at p images) first count d i rows k image preimage
+
+module _ {p : ℕ} {images : List (List ℕ)} {first count d i : ℕ} {rows : List (List ℕ)} {image preimage : List ℕ} {k : ℕ} where
+  pub none_in_hand : k ≤ 33 → InHand p images first count d i rows image preimage k true
+  none_in_hand l = record { limit = l; reduced = λ q. absurd (true≢false q) }
+
+  pub in_hand_lem : {fresh : Bool} → ReducedTo p (poly_at p images) first count d i rows k image preimage
+      → InHand p images first count d i rows image preimage k fresh
+  in_hand_lem R = record { limit = R.size.limit; reduced = λ q. R }
 
 pub searching_none : {p : ℕ} {images : List (List ℕ)} {first count d : ℕ} → Prime p → first ≤ count
     → Searching p images first count d first (replicate 33 (record { image = free; preimage = free }))
@@ -133,13 +148,16 @@ free_slot {p} P {rows = rows} k S l e = (
 -- the image of x^i is reduced to u, with k terms, and x^i to w
 module _ {p : ℕ} (P : Prime p) {images : List (List ℕ)} {first count d i : ℕ} {rows : List Row} {k : ℕ} {u w : List ℕ} (l : i < count)
     (S : Searching p images first count d i rows) (R : ReducedTo p (poly_at p images) first count d i (row_images rows) k u w) where
-  pub searching_found : k ≡ 0 → Least p images first count (record { degree = i; v = w })
+  pub searching_found : k ≡ 0 → Least p images first count i w
   searching_found e = record {
     reduced = R.preimage;
     above = S.above;
     within = l;
     least = stage_found (poly_at p images) count d first S.stage (rw e at R.reducing) (below_zero (rw e at (below_size p R.size)));
   }
+
+  pub found_monic : k ≡ 0 → i < 33 → MonicArray p i w
+  found_monic e fits = let a = searching_found e in record { fits = fits; reduced = a.reduced; monic = a.least.monic }
 
   -- its slot is free
   pub searching_more : {rows' : List Row} → 0 < k → get_or (get_or rows (k - 1) no_row).image (k - 1) 0 ≡ 0

@@ -3,7 +3,7 @@
 // above, and no entry point of the library.
 #![tactic(auto)]
 
-ghost use Rattle.std.specs.Prelude.{◌<◌, ◌≤◌, ◌-◌, ◌+◌};
+ghost use Rattle.std.specs.Prelude.{IfSome, ◌≡◌, ◌<◌, ◌≤◌, ◌-◌, ◌+◌};
 ghost use Rattle.algebra.specs.Fields.{Prime};
 ghost use Rattle.algebra.specs.PolynomialRing.{𝟎};
 ghost use Rattle.algebra.specs.Degree.{Below, Monic};
@@ -14,16 +14,9 @@ ghost use Rattle.modp_dependency.specs.Reduction.{TakenOff, Reducible, ReducedBy
 ghost use Rattle.modp_dependency.specs.Storing.{MonicRow};
 ghost use Rattle.modp_dependency.specs.Dependency.{Images, DependencyFound};
 
-use arrays::{Coefs, monomial, size_below};
+use arrays::{Coefs, MonicPoly, monomial, size_below};
 use modular::add_in_place;
 use residues::inverse;
-
-// A dependency v, of the degree given.
-#[derive(Clone, Copy)]
-pub struct Dependency {
-    pub degree: usize,
-    pub v: Coefs,
-}
 
 // An image, and a polynomial that goes to it.
 #[derive(Clone, Copy)]
@@ -32,44 +25,51 @@ struct Row {
     preimage: Coefs,
 }
 
-// The leading term of an image of size k is taken off by the row in its slot, whose preimage has i terms, and as much off the preimage. Gives the size of
-// the image that is left.
-fn take_off(held: &mut Row, row: &Row, k: usize, i: usize, p: u16) -> usize
-    requires { (0 < k) × (i ≤ 33) × Reduced p 33 held.old.image × Size held.old.image k × Reduced p 33 held.old.preimage
-        × Reduced p 33 row.now.image × Monic (k - 1) (poly p row.now.image) × Reduced p 33 row.now.preimage × Below i (poly p row.now.preimage) }
-    ensures { TakenOff p k held.old.image held.old.preimage row.now.image row.now.preimage
-        held.new.image held.new.preimage result }
-{
-    let top = k - 1;
-    let c = p - held.image[top];
-    add_in_place(&mut held.image, c, &row.image, k, p);
-    add_in_place(&mut held.preimage, c, &row.preimage, i, p);
-    size_below(&held.image, top)
+// The image in hand, of the size given, and a polynomial that goes to it.
+#[derive(Clone, Copy)]
+struct Held {
+    image: Coefs,
+    size: usize,
+    preimage: Coefs,
+    ghost sized: { Size image size },
 }
 
-// An image of size k and a preimage of degree i go into a free slot, both times the constant that makes the image monic: the slot holds 0, and the multiples
-// are added to it in place.
-fn store(slot: &mut Row, held: &Row, k: usize, i: usize, p: u16)
-    requires { Prime p × (0 < k) × (i < 33) × Represents p slot.old.image 𝟎 × Represents p slot.old.preimage 𝟎
-        × Reduced p 33 held.now.image × Size held.now.image k × Reduced p 33 held.now.preimage × Below (i + 1) (poly p held.now.preimage) }
-    ensures { MonicRow p held.now.image held.now.preimage (k - 1) slot.new.image slot.new.preimage }
-{
-    let c = inverse(held.image[k - 1], p);
-    add_in_place(&mut slot.image, c, &held.image, k, p);
-    add_in_place(&mut slot.preimage, c, &held.preimage, i + 1, p);
-}
-
-// The image in hand, of the size given, with the leading term taken off by the row in its slot until that slot is free or nothing is left; and as much off the
-// preimage. Gives the size of what is left.
-fn reduce(held: &mut Row, rows: &[Row], size: usize, i: usize, p: u16) -> usize
-    requires { Reducible p i rows.now size held.old.image held.old.preimage }
-    ensures { ReducedBy p i rows.now size held.old.image held.old.preimage result held.new.image held.new.preimage }
-{
-    let mut k = size;
-    while 0 < k && rows[k - 1].image[k - 1] != 0 {
-        k = take_off(held, &rows[k - 1], k, i, p);
+impl Held {
+    // The leading term of the image is taken off by the row in its slot, whose preimage has i terms, and as much off the preimage.
+    fn take_off(&mut self, row: &Row, i: usize, p: u16)
+        requires { (0 < self.old.size) × (i ≤ 33) × Reduced p 33 self.old.image × Reduced p 33 self.old.preimage × Reduced p 33 row.now.image
+            × Monic (self.old.size - 1) (poly p row.now.image) × Reduced p 33 row.now.preimage × Below i (poly p row.now.preimage) }
+        ensures { TakenOff p self.old.size self.old.image self.old.preimage row.now.image row.now.preimage
+            self.new.image self.new.preimage self.new.size }
+    {
+        let top = self.size - 1;
+        let c = p - self.image[top];
+        add_in_place(&mut self.image, c, &row.image, self.size, p);
+        add_in_place(&mut self.preimage, c, &row.preimage, i, p);
+        self.size = size_below(&self.image, top);
     }
-    k
+
+    // The same, until the slot is free or nothing is left.
+    fn reduce(&mut self, rows: &[Row], i: usize, p: u16)
+        requires { Reducible p i rows.now self.old.size self.old.image self.old.preimage }
+        ensures { ReducedBy p i rows.now self.old.size self.old.image self.old.preimage self.new.size self.new.image self.new.preimage }
+    {
+        while 0 < self.size && rows[self.size - 1].image[self.size - 1] != 0 {
+            self.take_off(&rows[self.size - 1], i, p);
+        }
+    }
+
+    // Image and preimage, of degree i, go into a free slot, both times the constant that makes the image monic: the slot holds 0, and the multiples are added
+    // to it in place.
+    fn store(&self, slot: &mut Row, i: usize, p: u16)
+        requires { Prime p × (0 < self.now.size) × (i < 33) × Represents p slot.old.image 𝟎 × Represents p slot.old.preimage 𝟎
+            × Reduced p 33 self.now.image × Reduced p 33 self.now.preimage × Below (i + 1) (poly p self.now.preimage) }
+        ensures { MonicRow p self.now.image self.now.preimage (self.now.size - 1) slot.new.image slot.new.preimage }
+    {
+        let c = inverse(self.image[self.size - 1], p);
+        add_in_place(&mut slot.image, c, &self.image, self.size, p);
+        add_in_place(&mut slot.preimage, c, &self.preimage, i + 1, p);
+    }
 }
 
 // The least dependency among the polynomials with terms of degree first to count - 1, whose images have d terms, if there is one: the image of each x^i is
@@ -80,9 +80,9 @@ pub fn least_dependency(
     count: usize,
     d: usize,
     p: u16,
-) -> Option<Dependency>
+) -> Option<MonicPoly>
     requires { Prime p × (first ≤ count) × (count ≤ 33) × (d ≤ 33) × Images p count d images.now }
-    ensures { DependencyFound p images.now first count result }
+    ensures { DependencyFound p images.now first count result × IfSome result (λ v. v.n ≡ p) }
 {
     let none = Row {
         image: [0u16; 33],
@@ -93,13 +93,22 @@ pub fn least_dependency(
         let image = images[i];
         let preimage = monomial(i);
         let size = size_below(&image, d);
-        let mut held = Row { image, preimage };
-        let k = reduce(&mut held, &rows, size, i, p);
-        if k == 0 {
-            let v = held.preimage;
-            return Some(Dependency { degree: i, v });
+        let mut held = Held {
+            image,
+            size,
+            preimage,
+        };
+        held.reduce(&rows, i, p);
+        if held.size == 0 {
+            let coefs = held.preimage;
+            let found = MonicPoly {
+                coefs,
+                degree: i,
+                n: p,
+            };
+            return Some(found);
         }
-        store(&mut rows[k - 1], &held, k, i, p);
+        held.store(&mut rows[held.size - 1], i, p);
     }
     None
 }

@@ -1,6 +1,6 @@
 -- What `splitting_element` finds: `ElementFound`, a splitting element of q, or that there is none. `Known`: an element at hand, if there is one.
 -- Proves the first of the least dependency of v^p − v, and that an element of q is one of each factor for which it is not constant. Assumes nothing.
-use Rattle.std.specs.Prelude.{List, Option, Some, IfSome, None, MatchOption, ℕ, ◌<◌}
+use Rattle.std.specs.Prelude.{◌≡◌, List, Option, Some, IfSome, None, MatchOption, ℕ, ◌<◌}
 use Rattle.std.proofs.Common.{arith}
 use Rattle.algebra.specs.Ring.{CommRing}
 use Rattle.algebra.specs.Divisibility.{◌∣◌, divides_trans}
@@ -13,7 +13,6 @@ use Rattle.frobenius.specs.SplittingElements.{SplittingElement}
 use Rattle.frobenius.specs.Unsplit.{Unsplit}
 use Rattle.frobenius.specs.PowerDependencies.{dependency_splits, injective_unsplit}
 use Rattle.quotients.specs.Remainder.{Remainder}
-use Rattle.modp_dependency.specs.declared.Dependency.{Dependency}
 use Rattle.modp_dependency.specs.Dependency.{Least, Independent}
 use Rattle.modp_dependency.specs.RemainderImages.{images_remainders}
 use Rattle.modp_element.specs.Images.{PowerImages}
@@ -27,7 +26,7 @@ abbrev pub ElementFound : (p d : ℕ) → List ℕ → Option (List ℕ) → Typ
 ElementFound p d q r = MatchOption r (Unsplit p d (poly p q)) (λ v. Splits p d (poly p q) v)
 
 module _ {p : ℕ} (P : Prime p) {d : ℕ} {q : List ℕ} {images : List (List ℕ)} (m : Monic d (poly p q)) (h : PowerImages p q d d images) where
-  pub element_found : {r : Dependency} → Least p images 1 d r → Splits p d (poly p q) r.v
+  pub element_found : {i : ℕ} {v : List ℕ} → Least p images 1 d i v → Splits p d (poly p q) v
   element_found a = record { reduced = a.reduced; splits = dependency_splits P m (images_remainders h) a.within a.least }
 
   pub none_found : Independent p images 1 d → Unsplit p d (poly p q)
@@ -36,6 +35,9 @@ module _ {p : ℕ} (P : Prime p) {d : ℕ} {q : List ℕ} {images : List (List �
 -- where one is known, it is a splitting element of Q; Q is of degree d
 abbrev pub Known : (p d : ℕ) → ℤ[x]/ p → Option (List ℕ) → Type 0
 Known p d Q e = IfSome e (λ v. Splits p d Q v)
+
+pub element_known : (p d : ℕ) (q : List ℕ) {e : Option (List ℕ)} {v : List ℕ} → Known p d (poly p q) e → e ≡ Some v → ElementFound p d q (Some v)
+element_known p d q h is = rw is at h
 
 -- whatever Q may be of which v is a splitting element and which b divides; that r is some element is not promised: it only saves a search
 abbrev pub ForFactor : (p d : ℕ) → List ℕ → ℕ → List ℕ → Option (List ℕ) → Type 0

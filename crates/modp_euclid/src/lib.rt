@@ -3,7 +3,7 @@
 #![tactic(auto)]
 
 ghost use Rattle.std.specs.Prelude.{◌≡◌, ◌<◌, ◌≤◌, ◌+◌, ◌-◌};
-ghost use Rattle.algebra.specs.Degree.{Below, Monic};
+ghost use Rattle.algebra.specs.Degree.{Below};
 ghost use Rattle.algebra.specs.Fields.{Prime};
 ghost use Rattle.algebra.specs.CoefficientLists.{poly, Reduced};
 ghost use Rattle.arrays.specs.Sizes.{Size};
@@ -13,40 +13,37 @@ ghost use Rattle.modp_euclid.specs.TakenOff.{TakenOff};
 ghost use Rattle.modp_euclid.specs.RowTakenOff.{Operands, RowTakenOff};
 ghost use Rattle.modp_euclid.specs.CommonDivisors.{GcdOf, CofactorOf};
 
-use arrays::{Coefs, size_below};
+use arrays::{Coefs, MonicPoly, size_below};
 use modular::add_by;
 use residues::{Modulus, inverse, times};
 
 // unit·a, which is monic.
 #[derive(Clone, Copy)]
 struct MonicMultiple {
-    array: Coefs,
+    multiple: MonicPoly,
     unit: u16,
 }
 
-// The gcd of a and b, and its degree.
-#[derive(Clone, Copy)]
-pub struct Greatest {
-    pub gcd: Coefs,
-    pub degree: usize,
-}
-
-// The gcd of a and b, its degree, and the cofactor of a: cofactor·a leaves the gcd modulo b.
+// The gcd of a and b, and the cofactor of a: cofactor·a leaves the gcd modulo b.
 #[derive(Clone, Copy)]
 pub struct CommonDivisor {
-    pub gcd: Coefs,
-    pub degree: usize,
+    pub gcd: MonicPoly,
     pub cofactor: Coefs,
 }
 
 // The monic multiple of a, which is of degree e.
 fn monic_multiple(a: Coefs, e: usize, p: u16) -> MonicMultiple
     requires { Prime p × Reduced p 33 a × Size a (e + 1) }
-    ensures { MonicMultipleOf p a e result.array result.unit }
+    ensures { MonicMultipleOf p a e result.multiple.coefs result.unit × (result.multiple.degree ≡ e) × (result.multiple.n ≡ p) }
 {
     let unit = inverse(a[e], p);
     let array = modular::multiple(unit, a, e + 1, p);
-    MonicMultiple { array, unit }
+    let multiple = MonicPoly {
+        coefs: array,
+        degree: e,
+        n: p,
+    };
+    MonicMultiple { multiple, unit }
 }
 
 // a modulo g in place, where a has s terms and g, of degree e, any leading coefficient: its multiples take the highest term of a off, turn by turn. Gives the
@@ -96,52 +93,51 @@ fn take_row_off(
     size_below(a, e)
 }
 
-// The monic gcd of a and b, where b is monic of degree d and a has d terms: the last remainder that is not 0, made monic. x and y hold two successive
-// remainders, of sizes s and r, and each is reduced by the other in its place.
-pub fn common_divisor(a: Coefs, b: Coefs, d: usize, p: u16) -> Greatest
-    requires { Prime p × (d < 33) × Reduced p 33 a × Reduced p 33 b × Below d (poly p a) × Monic d (poly p b) }
-    ensures { GcdOf p a b d result.gcd result.degree }
+// The monic gcd of a and b, where a is of lower degree than b: the last remainder that is not 0, made monic. x and y hold two successive remainders, of sizes
+// s and r, and each is reduced by the other in its place.
+pub fn common_divisor(a: Coefs, b: MonicPoly) -> MonicPoly
+    requires { Prime b.n × Reduced b.n 33 a × Below b.degree (poly b.n a) }
+    ensures { GcdOf b.n a b.coefs b.degree result.coefs result.degree × (result.n ≡ b.n) }
 {
-    let mut x = b;
+    let p = b.n;
+    let mut x = b.coefs;
     let mut y = a;
-    let mut s = d + 1;
-    let mut r = size_below(&y, d);
+    let mut s = b.degree + 1;
+    let mut r = size_below(&y, b.degree);
     while 0 < r {
         s = take_off(&mut x, s, &y, r - 1, p);
         if s == 0 {
-            let m = monic_multiple(y, r - 1, p);
-            let gcd = m.array;
-            return Greatest { gcd, degree: r - 1 };
+            return monic_multiple(y, r - 1, p).multiple;
         }
         r = take_off(&mut y, r, &x, s - 1, p);
     }
-    let n = monic_multiple(x, s - 1, p);
-    let gcd = n.array;
-    Greatest { gcd, degree: s - 1 }
+    monic_multiple(x, s - 1, p).multiple
 }
 
 // The row of a and its cofactor u made monic, where a is of degree e and u has t terms.
 fn monic_row(a: Coefs, u: Coefs, e: usize, t: usize, p: u16) -> CommonDivisor
     requires { Prime p × (t ≤ 33) × ReducedRow p t (record { remainder = a; cofactor = u }) × Size a (e + 1) }
-    ensures { MonicRow p t e (record { remainder = a; cofactor = u }) (record { remainder = result.gcd; cofactor = result.cofactor }) × (result.degree ≡ e) }
+    ensures { MonicRow p t e (record { remainder = a; cofactor = u }) (record { remainder = result.gcd.coefs; cofactor = result.cofactor })
+        × (result.gcd.degree ≡ e) × (result.gcd.n ≡ p) }
 {
     let m = monic_multiple(a, e, p);
     let v = modular::multiple(m.unit, u, t, p);
-    let gcd = m.array;
     CommonDivisor {
-        gcd,
-        degree: e,
+        gcd: m.multiple,
         cofactor: v,
     }
 }
 
-// The monic gcd of a and b with the cofactor of a, under the same conditions and where d is 1 or more: u·a leaves x modulo b, and v·a leaves y. The cofactors
-// stay exact: they have one term more at most than the degree of the former remainder is below d.
-pub fn gcd(a: Coefs, b: Coefs, d: usize, p: u16) -> CommonDivisor
-    requires { Prime p × (0 < d) × (d < 33) × Reduced p 33 a × Reduced p 33 b × Below d (poly p a) × Monic d (poly p b) }
-    ensures { GcdOf p a b d result.gcd result.degree × CofactorOf p a b d result.gcd result.cofactor }
+// The monic gcd of a and b with the cofactor of a, under the same conditions and where b is of degree 1 or more: u·a leaves x modulo b, and v·a leaves y. The
+// cofactors stay exact: they have one term more at most than the degree of the former remainder is below that of b.
+pub fn gcd(a: Coefs, b: MonicPoly) -> CommonDivisor
+    requires { Prime b.n × (0 < b.degree) × Reduced b.n 33 a × Below b.degree (poly b.n a) }
+    ensures { GcdOf b.n a b.coefs b.degree result.gcd.coefs result.gcd.degree × CofactorOf b.n a b.coefs b.degree result.gcd.coefs result.cofactor
+        × (result.gcd.n ≡ b.n) }
 {
-    let mut x = b;
+    let p = b.n;
+    let d = b.degree;
+    let mut x = b.coefs;
     let mut y = a;
     let mut u = [0u16; 33];
     let mut v = [0u16; 33];

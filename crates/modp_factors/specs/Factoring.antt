@@ -141,15 +141,16 @@ module _ {p : ℕ} (prime : Prime p) where
 
 -- the powers of r and what it leaves, to the u
 pub record FactoredBy (p : ℕ) (Q : ℤ[x]/ p) (u : ℕ) (r : Factored) : Type 0 where
-  pub factoring : Factoring p Q (held_powers r.powers) (poly p r.rest) u
-  pub reduced : Reduced p 33 r.rest
-  pub monic : Monic r.degree (poly p r.rest)
-  pub no_roots : NoRoots p (poly p r.rest)
-  pub room : length (held_powers r.powers) + r.degree ≤ 32
+  pub modulus : r.rest.n ≡ p
+  pub factoring : Factoring p Q (held_powers r.powers) (poly p r.rest.coefs) u
+  pub reduced : Reduced p 33 r.rest.coefs
+  pub monic : Monic r.rest.degree (poly p r.rest.coefs)
+  pub no_roots : NoRoots p (poly p r.rest.coefs)
+  pub room : length (held_powers r.powers) + r.rest.degree ≤ 32
   pub unit : 1 ≤ u
-  pub small : u * r.degree ≤ 32
+  pub small : u * r.rest.degree ≤ 32
 
-pub factored_done : {p : ℕ} → Prime p → {Q : ℤ[x]/ p} {u : ℕ} {r : Factored} → FactoredBy p Q u r → r.degree ≤ 0 → FactorsOf p Q r.powers
+pub factored_done : {p : ℕ} → Prime p → {Q : ℤ[x]/ p} {u : ℕ} {r : Factored} → FactoredBy p Q u r → r.rest.degree ≤ 0 → FactorsOf p Q r.powers
 factored_done {p} prime {r = r} F l =
     factoring_done prime F.factoring (omega (arith, F.room))
-    (subst (λ (k : ℕ). Monic k (poly p r.rest)) (let z : r.degree ≡ 0 = omega arith in z) F.monic)
+    (subst (λ (k : ℕ). Monic k (poly p r.rest.coefs)) (let z : r.rest.degree ≡ 0 = omega arith in z) F.monic)

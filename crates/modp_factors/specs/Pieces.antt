@@ -12,6 +12,7 @@ use Rattle.algebra.specs.Ring.{CommRing}
 use Rattle.algebra.specs.Divisibility.{◌∣◌, Coprime, pow, coprime_sym, coprime_divisor, coprime_pow, divides_trans, gauss}
 use Rattle.algebra.specs.PolynomialRing.{◌·◌}
 use Rattle.algebra.specs.CoefficientLists.{ℤ[x]/, poly, 𝓩[x]/}
+use Rattle.arrays.specs.declared.MonicPoly.{MonicPoly}
 use Rattle.arrays.specs.Held.{MonicArray}
 use Rattle.factorisation.specs.Irreducible.{Irreducible}
 use Rattle.factorisation.specs.SquareFree.{SquareFree, squarefree_divisor}
@@ -22,13 +23,14 @@ use Rattle.modp_factors.specs.Factoring.{FactoredBy}
 
 -- the polynomial of a piece
 abbrev pub piece_of : (p : ℕ) → Piece → ℤ[x]/ p
-piece_of p x = poly p x.coefs
+piece_of p x = poly p x.poly.coefs
 
 -- a monic polynomial of degree 1 or more, and what is known of its elements
 pub record Whole (p : ℕ) (x : Piece) : Type 0 where
-  pub array : MonicArray p x.degree x.coefs
-  pub positive : 0 < x.degree
-  pub known : Known p x.degree (piece_of p x) x.element
+  pub modulus : x.poly.n ≡ p
+  pub array : MonicArray p x.poly.degree x.poly.coefs
+  pub positive : 0 < x.poly.degree
+  pub known : Known p x.poly.degree (piece_of p x) x.element
 
 pub record PieceHeld (p : ℕ) (a : ℤ[x]/ p) (x : Piece) : Type 0 where
   pub whole : Whole p x
@@ -36,10 +38,10 @@ pub record PieceHeld (p : ℕ) (a : ℤ[x]/ p) (x : Piece) : Type 0 where
   pub squarefree : SquareFree (piece_of p x)
 
 -- a divisor without square factors is a piece, of which no element is known
-pub divisor_held : {p : ℕ} {a : ℤ[x]/ p} {z : List ℕ} {e : ℕ} → MonicArray p e z → 0 < e → ◌∣◌ (𝓩[x]/ p) (poly p z) a → SquareFree (poly p z)
-    → PieceHeld p a (record { coefs = z; degree = e; element = None })
-divisor_held m l d s = record {
-  whole = record { array = m; positive = l; known = tt };
+pub divisor_held : (z : MonicPoly) {a : ℤ[x]/ z.n} → 0 < z.degree → ◌∣◌ (𝓩[x]/ z.n) (poly z.n z.coefs) a → SquareFree (poly z.n z.coefs)
+    → PieceHeld z.n a (record { poly = z; element = None })
+divisor_held z l d s = record {
+  whole = record { modulus = refl; array = z.monic; positive = l; known = tt };
   divides = d;
   squarefree = s;
 }
@@ -48,7 +50,7 @@ divisor_held m l d s = record {
 pub record TwoPieces (p : ℕ) (x y z : Piece) : Type 0 where
   pub first : Whole p y
   pub second : Whole p z
-  pub degrees : y.degree + z.degree ≡ x.degree
+  pub degrees : y.poly.degree + z.poly.degree ≡ x.poly.degree
   pub coprime : Coprime (𝓩[x]/ p) (piece_of p y) (piece_of p z)
   pub multiplies : piece_of p y · piece_of p z ≡ piece_of p x
 
@@ -59,13 +61,13 @@ CutOf p x r = MatchOption r (Irreducible (piece_of p x)) (λ c. TwoPieces p x c.
 pub record BaseTaken (p u : ℕ) (f : Factored) (g : ℤ[x]/ p) (r : Factored) : Type 0 where
   pub factored : (Q : ℤ[x]/ p) → FactoredBy p Q u f → FactoredBy p Q u r
   pub times : ℕ
-  pub law : poly p r.rest · pow (𝓩[x]/ p) g times ≡ poly p f.rest
-  pub less : r.degree < f.degree
+  pub law : poly p r.rest.coefs · pow (𝓩[x]/ p) g times ≡ poly p f.rest.coefs
+  pub less : r.rest.degree < f.rest.degree
 
 -- pieces of what f leaves were divided out: what f factors r factors too, and less is left
 pub record PiecesTaken (p u : ℕ) (f r : Factored) : Type 0 where
   pub factored : (Q : ℤ[x]/ p) → FactoredBy p Q u f → FactoredBy p Q u r
-  pub less : r.degree < f.degree
+  pub less : r.rest.degree < f.rest.degree
 
 -- one base alone is enough for what is promised
 pub base_pieces : {p u : ℕ} {f : Factored} {g : ℤ[x]/ p} {r : Factored} → BaseTaken p u f g r → PiecesTaken p u f r
@@ -74,7 +76,7 @@ base_pieces t = record { factored = t.factored; less = t.less }
 -- the degrees of the pieces
 unfoldable pub weight : List Piece → ℕ
 weight [] = 0
-weight (x ∷ S) = x.degree + weight S
+weight (x ∷ S) = x.poly.degree + weight S
 
 -- a cut makes one piece more of the same degrees, a base takes a piece away
 unfoldable pub work : List Piece → ℕ
@@ -87,11 +89,11 @@ PiecesApart p x y = Coprime (𝓩[x]/ p) (piece_of p x) (piece_of p y)
 pub record State (p u : ℕ) (start f : Factored) (S : List Piece) : Type 0 where
   pub some : (Q : ℤ[x]/ p) × FactoredBy p Q u f
   pub factored : (Q : ℤ[x]/ p) → FactoredBy p Q u start → FactoredBy p Q u f
-  pub held : All (PieceHeld p (poly p f.rest)) S
+  pub held : All (PieceHeld p (poly p f.rest.coefs)) S
   pub apart : InOrder (PiecesApart p) S
   pub weighs : weight S ≤ 32
-  pub at_most : f.degree ≤ start.degree
-  pub less : (0 < length S) ⊎ (f.degree < start.degree)
+  pub at_most : f.rest.degree ≤ start.rest.degree
+  pub less : (0 < length S) ⊎ (f.rest.degree < start.rest.degree)
 
 -- no piece is of degree 0
 pieces_weigh : {p : ℕ} {a : ℤ[x]/ p} (S : List Piece) → All (PieceHeld p a) S → length S ≤ weight S
@@ -99,7 +101,7 @@ unfolding weight
 pieces_weigh [] h = omega arith
 pieces_weigh (x ∷ S) h = omega (arith, (h x (here refl)).whole.positive, pieces_weigh S (all_tail h))
 
-pub state_start : {p u : ℕ} (f : Factored) {x : Piece} → (Q : ℤ[x]/ p) × FactoredBy p Q u f → PieceHeld p (poly p f.rest) x → State p u f f (x ∷ [])
+pub state_start : {p u : ℕ} (f : Factored) {x : Piece} → (Q : ℤ[x]/ p) × FactoredBy p Q u f → PieceHeld p (poly p f.rest.coefs) x → State p u f f (x ∷ [])
 unfolding weight
 state_start f F h = record {
   some = F;
@@ -118,7 +120,7 @@ module _ {p u : ℕ} {start f : Factored} {x : Piece} {S : List Piece} (w : Stat
   abbrev 𝓑 : CommRing (ℤ[x]/ p)
   𝓑 = 𝓩[x]/ p
 
-  pub top : PieceHeld p (poly p f.rest) x
+  pub top : PieceHeld p (poly p f.rest.coefs) x
   top = w.held x (here refl)
 
   rest_weighs : length S ≤ weight S
@@ -137,7 +139,7 @@ module _ {p u : ℕ} {start f : Factored} {x : Piece} {S : List Piece} (w : Stat
     second_divides = (piece_of p y, t.multiplies)
 
     -- a divisor of the top piece is a piece, and coprime to the others
-    held_divisor : {v : Piece} → Whole p v → ◌∣◌ 𝓑 (piece_of p v) (piece_of p x) → PieceHeld p (poly p f.rest) v
+    held_divisor : {v : Piece} → Whole p v → ◌∣◌ 𝓑 (piece_of p v) (piece_of p x) → PieceHeld p (poly p f.rest.coefs) v
     held_divisor W d = record {
       whole = W;
       divides = divides_trans 𝓑 d top.divides;
@@ -165,7 +167,7 @@ module _ {p u : ℕ} {start f : Factored} {x : Piece} {S : List Piece} (w : Stat
 
   module _ {r : Factored} (t : BaseTaken p u f (piece_of p x) r) where
     -- the other pieces divide what is left, since they are coprime to x
-    still_divides : (s : Piece) → Coprime 𝓑 (piece_of p x) (piece_of p s) → ◌∣◌ 𝓑 (piece_of p s) (poly p f.rest) → ◌∣◌ 𝓑 (piece_of p s) (poly p r.rest)
+    still_divides : (s : Piece) → Coprime 𝓑 (piece_of p x) (piece_of p s) → ◌∣◌ 𝓑 (piece_of p s) (poly p f.rest.coefs) → ◌∣◌ 𝓑 (piece_of p s) (poly p r.rest.coefs)
     still_divides s c d = gauss 𝓑 (coprime_pow 𝓑 t.times (coprime_sym 𝓑 c)) (rw t.law d)
 
     pub state_taken : State p u start r S

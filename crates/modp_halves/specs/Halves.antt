@@ -1,18 +1,22 @@
 -- Coprime factors by a splitting element: `Halvable`, what is given, `HalvesOf`, what comes of it, and `CoprimeTo`, what the loop has seen of each
 -- constant.
--- Proves what v − c is, that a gcd of degree 1 or more splits Q, and that one of the constants has such a gcd. Assumes nothing.
-use Rattle.std.specs.Prelude.{◌≡◌, List, ◌∷◌, ◌≢◌, replicate, ℕ, ◌≤◌, ◌<◌, ◌-◌, ◌+◌}
+-- Proves that what is given is so in one way, what v − c is, that a gcd of degree 1 or more splits Q, and that one of the constants has such a gcd.
+-- Assumes nothing.
+use Rattle.std.specs.Prelude.{◌≡◌, List, ◌≢◌, ℕ, ◌≤◌, ◌<◌, ◌-◌, ◌+◌}
 use Rattle.std.proofs.Common.{sym, ◌∙◌, ap, subst, inl, pos_of_ne-zero, arith}
+use Rattle.std.proofs.Math.Path.{Σ_path}
+use Rattle.std.proofs.Props.{props}
+use mathlib.Core.HLevel.{is_prop→PathP}
 use Rattle.algebra.specs.Ring.{CommRing, mul_one}
-use Rattle.algebra.specs.Divisibility.{Coprime, divides_mul, divides_add, coprime_common}
+use Rattle.algebra.specs.Divisibility.{◌∣◌, Coprime, divides_mul, divides_add, coprime_common}
 use Rattle.algebra.specs.Residues.{ℤ/, residue, Residues, residue_value, value_below}
-use Rattle.algebra.specs.PolynomialRing.{◌+ᴿ◌, ◌·◌, -ᴿ◌, 𝟏, constant, constant_zero}
+use Rattle.algebra.specs.PolynomialRing.{◌+ᴿ◌, ◌·◌, -ᴿ◌, 𝟎, 𝟏, constant, constant_zero}
 use Rattle.algebra.specs.Monomials.{x^}
-use Rattle.algebra.specs.Degree.{Below, Monic, below_add, below_neg, below_up, below_constant, below_zero, monic_zero, monic_one_lem, monic_mul_lem}
+use Rattle.algebra.specs.Degree.{Below, Monic, below_add, below_neg, below_up, below_constant, below_zero, below_𝟎, monic_zero, monic_one_lem, monic_mul_lem}
 use Rattle.algebra.specs.Fields.{Prime, prime_pos, residue_field, residue_nontrivial}
+use Rattle.algebra.specs.Division.{divided_unique}
 use Rattle.algebra.specs.Bezout.{MonicBezout, bezout_monic}
 use Rattle.algebra.specs.CoefficientLists.{ℤ[x]/, poly, Reduced, 𝓩[x]/}
-use Rattle.algebra.specs.ListDivision.{poly_unit}
 use Rattle.arrays.specs.Represents.{Represents}
 use Rattle.factorisation.specs.MonicDivisors.{monic_antisym, monic_degree, monic_nonzero, divisor_degree}
 use Rattle.frobenius.specs.SplittingElements.{CoprimeFactors, SplittingElement, splitting_constant, splitting_factors}
@@ -30,6 +34,16 @@ pub record Halvable (p : ℕ) (q : List ℕ) (d : ℕ) (v : List ℕ) : Type 0 w
   pub element : Reduced p 33 v
   pub splits : SplittingElement p d (poly p q) (poly p v)
 
+-- a monic polynomial has one quotient at most
+divides_prop : {p d : ℕ} {Q : ℤ[x]/ p} → Monic d Q → (a : ℤ[x]/ p) → IsProp (◌∣◌ (𝓩[x]/ p) Q a)
+divides_prop {p} {d} {Q} m a s t = Σ_path same (is_prop→PathP (λ i. same i · Q ≡ a) (λ i. (𝓩[x]/ p).is_set (same i · Q) a) s.1 t.1)
+  where
+    same : s.0 ≡ t.0
+    same = (divided_unique m s.0 𝟎 t.0 𝟎 (below_𝟎 d) (below_𝟎 d) (ap (λ b. b +ᴿ 𝟎) (s.1 ∙ sym t.1))).0
+
+pub halvable_prop : (p : ℕ) (q : List ℕ) (d : ℕ) (v : List ℕ) → IsProp (Halvable p q d v)
+halvable_prop p q d v s = let all : IsProp (Halvable p q d v) = Prim.hlevel (props, divides_prop s.monic) in all s
+
 -- Q is a·b, and a, of degree i, is coprime to b
 pub record HalvesOf (p : ℕ) (q : List ℕ) (d : ℕ) (a : List ℕ) (i : ℕ) (b : List ℕ) : Type 0 where
   pub first : Reduced p 33 a
@@ -41,13 +55,13 @@ pub record HalvesOf (p : ℕ) (q : List ℕ) (d : ℕ) (a : List ℕ) (i : ℕ) 
   pub coprime : Coprime (𝓩[x]/ p) (poly p a) (poly p b)
   pub multiplies : poly p a · poly p b ≡ poly p q
 
--- v + (p − c)·1
-pub less_constant : (p c : ℕ) (v r : List ℕ) → 0 < p → c ≤ p
-    → Represents p r (poly p v +ᴿ constant (residue p (p - c)) · (x^ 0 · poly p (1 ∷ replicate 32 0))) → Represents p r (poly p v +ᴿ -ᴿ constant (residue p c))
-less_constant p c v r pos l h = record {
+-- v + (p − c)·1, where one is the list of 1
+pub less_constant : (p c : ℕ) (v one r : List ℕ) → 0 < p → c ≤ p → poly p one ≡ 𝟏
+    → Represents p r (poly p v +ᴿ constant (residue p (p - c)) · (x^ 0 · poly p one)) → Represents p r (poly p v +ᴿ -ᴿ constant (residue p c))
+less_constant p c v one r pos l e h = record {
   reduced = h.reduced;
-  is = multiple_taken_off p pos l (poly p v) (poly p (1 ∷ replicate 32 0)) h
-      ∙ ap (λ a. poly p v +ᴿ -ᴿ (constant (residue p c) · a)) (poly_unit p 32)
+  is = multiple_taken_off p pos l (poly p v) (poly p one) h
+      ∙ ap (λ a. poly p v +ᴿ -ᴿ (constant (residue p c) · a)) e
       ∙ ap (λ a. poly p v +ᴿ -ᴿ a) (mul_one (𝓩[x]/ p) (constant (residue p c)));
 }
 

@@ -2,8 +2,8 @@
 -- Proves that the one represents the derivative, and that the other is the p-th root where the derivative is 𝟎. Assumes nothing.
 use mathlib.Core.Path.{◌≡◌, sym, ◌∙◌}
 use mathlib.Core.List.{List}
-use Prim.Native.Nat.{ℕ, suc, ◌≤◌, ◌<◌, ◌%◌, ◌+◌, ◌*◌}
-use native.Mathlib.Nat.{mod-lt, mul-le-mul_right}
+use Prim.Native.Nat.{ℕ, suc, ◌≤◌, ◌<◌, ◌/◌, ◌%◌, ◌+◌, ◌*◌}
+use native.Mathlib.Nat.{mod-lt, mul-le-mul_right, div-lt_iff_lt-mul}
 use native.Mathlib.Numerals.{add-one}
 use native.Mathlib.Omega.{arith}
 use lib.ListN.{get_or, replicate, length-replicate}
@@ -15,9 +15,10 @@ use Rattle.algebra.specs.Fields.{Prime, prime_pos}
 use Rattle.algebra.specs.CoefficientLists.{poly, Reduced, coef_poly}
 use Rattle.algebra.specs.ListShapes.{get_d_zeros}
 use Rattle.arrays.specs.Represents.{Represents}
-use Rattle.frobenius.specs.FrobeniusPowers.{◌^ᴿ◌}
+use Rattle.arrays.specs.Held.{MonicArray}
 use Rattle.frobenius.specs.Derivatives.{derivative, coef_derivative, below_derivative}
 use Rattle.frobenius.specs.PowerRoots.{power_of_root}
+use Rattle.modp_radical.specs.Radicals.{RootHeld, radical_root}
 
 -- an array of zeros with the first i entries stored
 abbrev pub Stored : (ℕ → ℕ) → List ℕ → ℕ → Type 0
@@ -55,13 +56,17 @@ derivative_stored {p} {d} a {r} reduced below l h = record {
 abbrev pub root_entry : ℕ → List ℕ → ℕ → ℕ
 root_entry p a i = get_or a (i * p) 0
 
-pub root_stored : {p d : ℕ} (a : List ℕ) {r : List ℕ} {i : ℕ} → Prime p → Reduced p 33 a → Below (suc d) (poly p a) → derivative (poly p a) ≡ 𝟎
-    → d < i * p → Stored (root_entry p a) r i → Reduced p 33 r × (poly p r ^ᴿ p ≡ poly p a)
-root_stored {p} {d} a {r} {i} P reduced below z l h =
-    (reduced_stored h (prime_pos P) (λ k. reduced.low (k * p)), power_of_root P (poly p a) (poly p r) z at)
+pub root_stored : {p d : ℕ} (a : List ℕ) {r : List ℕ} {i : ℕ} → Prime p → 0 < d → MonicArray p d a → derivative (poly p a) ≡ 𝟎
+    → d / p < i → Stored (root_entry p a) r i → RootHeld p (poly p a) d r (d / p)
+root_stored {p} {d} a {r} {i} P pos m z l h =
+    radical_root a P pos m.monic z (reduced_stored h (prime_pos P) (λ k. m.reduced.low (k * p))) (power_of_root P (poly p a) (poly p r) z at)
   where
+    -- the next multiple of p is above the degree
+    above : d < i * p
+    above = (div-lt_iff_lt-mul (prime_pos P)).0 l
+
     at : (k : ℕ) → (poly p r).coef k ≡ (poly p a).coef (k * p)
     at k =
         coef_poly p r k
         ∙ entries h (λ k v. residue p v ≡ (poly p a).coef (k * p)) (λ k m. sym (coef_poly p a (k * p)))
-        (λ k m. residue_zero p ∙ sym (below.high (k * p) (omega (arith, mul-le-mul_right p m)))) k
+        (λ k u. residue_zero p ∙ sym (m.monic.below.high (k * p) (omega (arith, above, mul-le-mul_right p u)))) k

@@ -3,101 +3,82 @@
 // the crates above, and no entry point of the library.
 #![tactic(auto)]
 
-ghost use Rattle.std.specs.Prelude.{◌≡◌, ◌<◌, suc};
+ghost use Rattle.std.specs.Prelude.{◌≡◌, ◌<◌};
 ghost use Rattle.algebra.specs.PolynomialRing.{𝟎};
-ghost use Rattle.algebra.specs.Degree.{Below, Monic};
 ghost use Rattle.algebra.specs.Fields.{Prime};
-ghost use Rattle.algebra.specs.CoefficientLists.{poly, Reduced};
+ghost use Rattle.algebra.specs.CoefficientLists.{poly};
 ghost use Rattle.arrays.specs.Represents.{Represents};
-ghost use Rattle.arrays.specs.Held.{MonicArray};
-ghost use Rattle.frobenius.specs.FrobeniusPowers.{◌^ᴿ◌};
 ghost use Rattle.frobenius.specs.Derivatives.{derivative as derivativeOf};
-ghost use Rattle.modp_radical.specs.Radicals.{DivisorOf, RadicalOf};
+ghost use Rattle.modp_radical.specs.Radicals.{RootHeld, DivisorOf, RadicalOf};
 
-use arrays::Coefs;
+use arrays::{Coefs, MonicPoly};
 use residues::Modulus;
 
-// A monic polynomial of the degree given: the p-th root, or a divisor.
+// What `radical_of` finds of a polynomial: its p-th root, or a divisor.
 #[derive(Clone, Copy)]
-pub struct Radical {
-    pub coefs: Coefs,
-    pub degree: usize,
-    pub rooted: bool,
+pub enum Radical {
+    Root(MonicPoly),
+    Divisor(MonicPoly),
 }
 
-// The derivative of a, which is of degree d or less. The products have 16 bits, of which a machine takes eight at a time.
-fn derivative(a: Coefs, d: usize, p: u16) -> Coefs
-    requires { (p < 256) × (d < 33) × Reduced p 33 a × Below (suc d) (poly p a) }
-    ensures { Represents p result (derivativeOf (poly p a)) }
+// The derivative of a. The products have 16 bits, of which a machine takes eight at a time.
+fn derivative(a: MonicPoly) -> Coefs
+    requires { a.n < 256 }
+    ensures { Represents a.n result (derivativeOf (poly a.n a.coefs)) }
 {
-    let modulus = Modulus::new(p);
+    let modulus = Modulus::new(a.n);
     let mut r = [0u16; 33];
-    for k in 0..d {
-        r[k] = modulus.reduce_narrow((k as u16 + 1) * a[k + 1]);
+    for k in 0..a.degree {
+        r[k] = modulus.reduce_narrow((k as u16 + 1) * a.coefs[k + 1]);
     }
     r
 }
 
-// The p-th root of a, which is of degree d or less and has derivative 0: every p-th coefficient of a.
-fn root(a: Coefs, d: usize, p: u16) -> Coefs
-    requires { Prime p × (d < 33) × Reduced p 33 a × Below (suc d) (poly p a) × (derivativeOf (poly p a) ≡ 𝟎) }
-    ensures { Reduced p 33 result × (poly p result ^ᴿ p ≡ poly p a) }
+// The p-th root of a, whose derivative is 0 modulo p: every p-th coefficient of a.
+fn root(a: MonicPoly) -> MonicPoly
+    requires { Prime a.n × (0 < a.degree) × (derivativeOf (poly a.n a.coefs) ≡ 𝟎) }
+    ensures { RootHeld a.n (poly a.n a.coefs) a.degree result.coefs result.degree × (result.n ≡ a.n) }
 {
-    let step = p as usize;
-    let mut r = [0u16; 33];
-    for i in 0..d / step + 1 {
-        r[i] = a[i * step];
+    let step = a.n as usize;
+    let mut coefs = [0u16; 33];
+    for i in 0..a.degree / step + 1 {
+        coefs[i] = a.coefs[i * step];
     }
-    r
+    MonicPoly {
+        coefs,
+        degree: a.degree / step,
+        n: a.n,
+    }
 }
 
-// The factors of z, of degree e, whose multiplicity is the lowest, where c, of degree k, is what z leaves of a polynomial: z is divided out of c as often as
-// it goes, and what is common with the rest is taken off z. All of z where c is 1: the multiplicities are one; and where e is below 4: without roots z is
-// irreducible then. That the multiplicity is the lowest is not promised, so that only time rests on it.
-fn lowest(z: Coefs, e: usize, c: Coefs, k: usize, p: u16) -> Radical
-    requires { Prime p × (0 < e) × MonicArray p e z × MonicArray p k c }
-    ensures { DivisorOf p (poly p z) e result }
+// The factors of z whose multiplicity is the lowest, where c is what z leaves of a polynomial: z is divided out of c as often as it goes, and what is common
+// with the rest is taken off z. All of z where c is 1: the multiplicities are one; and where z is of degree below 4: without roots it is irreducible then.
+// That the multiplicity is the lowest is not promised, so that only time rests on it.
+fn lowest(z: MonicPoly, c: MonicPoly) -> Radical
+    requires { (0 < z.degree) × Prime z.n × (c.n ≡ z.n) }
+    ensures { DivisorOf z.n (poly z.n z.coefs) z.degree result }
 {
-    let mut r = Radical {
-        coefs: z,
-        degree: e,
-        rooted: false,
-    };
-    if e < 4 {
-        return r;
+    if z.degree < 4 || c.degree == 0 {
+        return Radical::Divisor(z);
     }
-    if k == 0 {
-        return r;
-    }
-    let t = modp_roots::divide_out(c, k, z, e, p);
-    let l = t.coefs;
-    let m = quotients::remainder(l, t.degree + 1, z, e, p);
-    let g = modp_euclid::common_divisor(m, z, e, p);
-    let h = g.gcd;
-    let v = division::divide(z, e + 1, h, g.degree, p);
-    let q = v.quotient;
-    r.coefs = q;
-    r.degree = e - g.degree;
-    r
+    let t = modp_roots::divide_out(c, z);
+    let l = t.left;
+    let m = quotients::remainder(l.coefs, l.degree + 1, z);
+    let g = modp_euclid::common_divisor(m, z);
+    let q = division::quotient(z, g);
+    Radical::Divisor(q)
 }
 
-// Where the derivative of a is 0 its p-th root, and `rooted`; else a divisor without square factors: `lowest` of a over its gcd with the derivative.
-pub fn radical_of(a: Coefs, n: usize, p: u16) -> Radical
-    requires { Prime p × (p < 256) × (0 < n) × (n < 33) × Reduced p 33 a × Monic n (poly p a) }
-    ensures { RadicalOf p (poly p a) n result }
+// Where the derivative of a is 0 its p-th root; else a divisor without square factors: `lowest` of a over its gcd with the derivative.
+pub fn radical_of(a: MonicPoly) -> Radical
+    requires { Prime a.n × (a.n < 256) × (0 < a.degree) }
+    ensures { RadicalOf a.n (poly a.n a.coefs) a.degree result }
 {
-    let v = derivative(a, n, p);
-    if arrays::size_below(&v, n) == 0 {
-        let h = root(a, n, p);
-        return Radical {
-            coefs: h,
-            degree: n / (p as usize),
-            rooted: true,
-        };
+    let v = derivative(a);
+    if arrays::size_below(&v, a.degree) == 0 {
+        return Radical::Root(root(a));
     }
-    let g = modp_euclid::common_divisor(v, a, n, p);
-    let h = g.gcd;
-    let t = division::divide(a, n + 1, h, g.degree, p);
-    let q = t.quotient;
-    lowest(q, n - g.degree, h, g.degree, p)
+    let g = modp_euclid::common_divisor(v, a);
+    let q = division::quotient(a, g);
+    lowest(q, g)
 }

@@ -11,6 +11,7 @@ use Rattle.algebra.specs.Degree.{Monic, monic_pow}
 use Rattle.algebra.specs.Leading.{monic_cofactor}
 use Rattle.algebra.specs.Fields.{Prime, residue_field, residue_discrete}
 use Rattle.algebra.specs.CoefficientLists.{ℤ[x]/, 𝓩[x]/, poly, Reduced}
+use Rattle.arrays.specs.declared.MonicPoly.{MonicPoly}
 use Rattle.arrays.specs.Sizes.{Size, size_zero, size_nonzero}
 use Rattle.factorisation.specs.MonicDivisors.{divisor_degree}
 use Rattle.division.specs.DivisionLoop.{DividedBy, divided_exactly}
@@ -18,24 +19,24 @@ use Rattle.modp_roots.specs.declared.Rest.{Rest}
 
 -- a, of degree n, is g^times, where g is of degree d, times what is left, which g does not divide
 pub record DividedOut (p : ℕ) (a : ℤ[x]/ p) (n : ℕ) (g : ℤ[x]/ p) (d : ℕ) (r : Rest) : Type 0 where
-  pub reduced : Reduced p 33 r.coefs
-  pub monic : Monic r.degree (poly p r.coefs)
-  pub degrees : r.degree + r.times * d ≡ n
-  pub law : poly p r.coefs · pow (𝓩[x]/ p) g r.times ≡ a
-  pub stops : ¬ (◌∣◌ (𝓩[x]/ p) g (poly p r.coefs))
+  pub reduced : Reduced p 33 r.left.coefs
+  pub monic : Monic r.left.degree (poly p r.left.coefs)
+  pub degrees : r.left.degree + r.times * d ≡ n
+  pub law : poly p r.left.coefs · pow (𝓩[x]/ p) g r.times ≡ a
+  pub stops : ¬ (◌∣◌ (𝓩[x]/ p) g (poly p r.left.coefs))
 
 module _ {p : ℕ} {a : ℤ[x]/ p} {n : ℕ} {g : ℤ[x]/ p} {d : ℕ} {r : Rest} (D : DividedOut p a n g d r) where
-  pub rest_divides : ◌∣◌ (𝓩[x]/ p) (poly p r.coefs) a
-  rest_divides = (pow (𝓩[x]/ p) g r.times, (𝓩[x]/ p).*_comm (pow (𝓩[x]/ p) g r.times) (poly p r.coefs) ∙ D.law)
+  pub rest_divides : ◌∣◌ (𝓩[x]/ p) (poly p r.left.coefs) a
+  rest_divides = (pow (𝓩[x]/ p) g r.times, (𝓩[x]/ p).*_comm (pow (𝓩[x]/ p) g r.times) (poly p r.left.coefs) ∙ D.law)
 
   -- a divisor is divided out once at least
   pub divisor_times : ◌∣◌ (𝓩[x]/ p) g a → 1 ≤ r.times
   divisor_times e = pos_of_ne-zero (λ z. D.stops (rw (sym D.law ∙ none z) at e))
     where
-      none : r.times ≡ 0 → poly p r.coefs · pow (𝓩[x]/ p) g r.times ≡ poly p r.coefs
+      none : r.times ≡ 0 → poly p r.left.coefs · pow (𝓩[x]/ p) g r.times ≡ poly p r.left.coefs
       none z =
-          ap (λ k. poly p r.coefs · pow (𝓩[x]/ p) g k) z ∙ ap (λ b. poly p r.coefs · b) (pow_zero (𝓩[x]/ p) g)
-          ∙ mul_one (𝓩[x]/ p) (poly p r.coefs)
+          ap (λ k. poly p r.left.coefs · pow (𝓩[x]/ p) g k) z ∙ ap (λ b. poly p r.left.coefs · b) (pow_zero (𝓩[x]/ p) g)
+          ∙ mul_one (𝓩[x]/ p) (poly p r.left.coefs)
 
 -- g was divided out m times, and f, of degree e, is left
 pub record Dividing (p : ℕ) (a : ℤ[x]/ p) (n : ℕ) (g : ℤ[x]/ p) (d : ℕ) (f : List ℕ) (e m : ℕ) : Type 0 where
@@ -92,19 +93,19 @@ module _ {p : ℕ} {n : ℕ} {g : ℤ[x]/ p} {d : ℕ} where
     pub dividing_times : 0 < d → m ≤ n
     dividing_times pos = omega (arith, D.degrees, mul-le-mul_left m pos)
 
-    pub dividing_stops : ¬ (◌∣◌ (𝓩[x]/ p) g (poly p f)) → DividedOut p a n g d (record { coefs = f; degree = e; times = m })
-    dividing_stops s = record { reduced = D.reduced; monic = D.monic; degrees = D.degrees; law = D.law; stops = s }
-
     -- what is left is divided on to the end
-    pub dividing_end : {r : Rest} → DividedOut p (poly p f) e g d r
-        → DividedOut p a n g d (record { coefs = r.coefs; degree = r.degree; times = m + r.times })
+    pub dividing_end : {r : Rest} → DividedOut p (poly p f) e g d r → DividedOut p a n g d (record { left = r.left; times = m + r.times })
     dividing_end {r} E = record { reduced = A.reduced; monic = A.monic; degrees = A.degrees; law = A.law; stops = E.stops }
       where
-        A : Dividing p a n g d r.coefs r.degree (m + r.times)
+        A : Dividing p a n g d r.left.coefs r.left.degree (m + r.times)
         A = dividing_then (record { reduced = E.reduced; monic = E.monic; degrees = E.degrees; law = E.law })
 
+  module _ {a : ℤ[x]/ p} {f : MonicPoly} {m : ℕ} (D : Dividing p a n g d f.coefs f.degree m) where
+    pub dividing_stops : ¬ (◌∣◌ (𝓩[x]/ p) g (poly p f.coefs)) → DividedOut p a n g d (record { left = f; times = m })
+    dividing_stops s = record { reduced = D.reduced; monic = D.monic; degrees = D.degrees; law = D.law; stops = s }
+
     -- the degree of what is left is too low
-    pub dividing_done : Prime p → Monic d g → e < d → DividedOut p a n g d (record { coefs = f; degree = e; times = m })
+    pub dividing_done : Prime p → Monic d g → f.degree < d → DividedOut p a n g d (record { left = f; times = m })
     dividing_done P mg l =
         dividing_stops (λ s. absurd (omega (arith, divisor_degree (residue_field p P).one_ne_zero mg D.monic s)))
 

@@ -4,7 +4,7 @@
 
 ghost use Rattle.std.specs.Prelude.{◌≡◌, suc, ◌<◌, ◌≤◌, ◌/◌, length};
 ghost use Rattle.algebra.specs.Residues.{residue};
-ghost use Rattle.algebra.specs.Degree.{Below, Monic};
+ghost use Rattle.algebra.specs.Degree.{Below};
 ghost use Rattle.algebra.specs.Fields.{Prime};
 ghost use Rattle.algebra.specs.CoefficientLists.{poly, Reduced};
 ghost use Rattle.arrays.specs.Represents.{Within};
@@ -14,14 +14,13 @@ ghost use Rattle.modp_roots.specs.LinearDivision.{LinearDivided};
 ghost use Rattle.modp_roots.specs.BinomialDivision.{PowerOf, LargestPower, BinomialDivided, MovedDown};
 ghost use Rattle.modp_roots.specs.DividedOut.{DividedOut, Dividing};
 
-use arrays::Coefs;
+use arrays::{Coefs, MonicPoly};
 use residues::Modulus;
 
-// What is left of a polynomial, its degree, and how often a divisor was divided out.
+// What is left of a polynomial, and how often a divisor was divided out.
 #[derive(Clone, Copy)]
 pub struct Rest {
-    pub coefs: Coefs,
-    pub degree: usize,
+    pub left: MonicPoly,
     pub times: usize,
 }
 
@@ -110,121 +109,102 @@ fn move_down(a: Coefs, k: usize) -> Coefs
     r
 }
 
-// a, of degree n, divided by (x - c)^k = x^k - c, where k is a power of p: each time x - c is divided out k times. That it goes no further is not promised:
+// a divided by (x - c)^k = x^k - c, where k is a power of p: each time x - c is divided out k times. That it goes no further is not promised:
 // `divide_linear_out` comes last, so that only time rests on it.
-fn divide_power(a: Coefs, n: usize, k: usize, c: u16, p: u16) -> Rest
-    requires { Prime p × (p < 256) × (n < 33) × (c < p) × PowerOf p k × Reduced p 33 a × Monic n (poly p a) }
-    ensures { Dividing p (poly p a) n (linear (residue p c)) 1 result.coefs result.degree result.times }
+fn divide_power(a: MonicPoly, k: usize, c: u16) -> Rest
+    requires { Prime a.n × (a.n < 256) × (c < a.n) × PowerOf a.n k }
+    ensures { Dividing a.n (poly a.n a.coefs) a.degree (linear (residue a.n c)) 1 result.left.coefs result.left.degree result.times × (result.left.n ≡ a.n) }
 {
-    let mut f = a;
-    let mut e = n;
-    let mut m: usize = 0;
-    while k <= e {
-        let whole = f;
-        divide_binomial(&mut f, e, k, c, p);
+    let mut left = a;
+    let mut times: usize = 0;
+    while k <= left.degree {
+        let mut f = left.coefs;
+        divide_binomial(&mut f, left.degree, k, c, a.n);
         if arrays::size_below(&f[0..k], k) != 0 {
-            return Rest {
-                coefs: whole,
-                degree: e,
-                times: m,
-            };
+            return Rest { left, times };
         }
-        let q = move_down(f, k);
-        f = q;
-        e -= k;
-        m += k;
+        left = MonicPoly {
+            coefs: move_down(f, k),
+            degree: left.degree - k,
+            n: a.n,
+        };
+        times += k;
     }
-    Rest {
-        coefs: f,
-        degree: e,
-        times: m,
-    }
+    Rest { left, times }
 }
 
-// a, of degree n, divided by x - c as often as it goes, by one at a time.
-fn divide_linear_out(a: Coefs, n: usize, c: u16, p: u16) -> Rest
-    requires { Prime p × (p < 256) × (n < 33) × (c < p) × Reduced p 33 a × Monic n (poly p a) }
-    ensures { DividedOut p (poly p a) n (linear (residue p c)) 1 result }
+// a divided by x - c as often as it goes, by one at a time.
+fn divide_linear_out(a: MonicPoly, c: u16) -> Rest
+    requires { Prime a.n × (a.n < 256) × (c < a.n) }
+    ensures { DividedOut a.n (poly a.n a.coefs) a.degree (linear (residue a.n c)) 1 result × (result.left.n ≡ a.n) }
 {
-    let mut f = a;
-    let mut e = n;
-    let mut k: usize = 0;
-    while 0 < e {
-        let whole = f;
-        let r = divide_linear(&mut f, e + 1, c, p);
+    let mut left = a;
+    let mut multiplicity: usize = 0;
+    while 0 < left.degree {
+        let mut f = left.coefs;
+        let r = divide_linear(&mut f, left.degree + 1, c, a.n);
         if r != 0 {
             return Rest {
-                coefs: whole,
-                degree: e,
-                times: k,
+                left,
+                times: multiplicity,
             };
         }
-        e -= 1;
-        k += 1;
+        left = MonicPoly {
+            coefs: f,
+            degree: left.degree - 1,
+            n: a.n,
+        };
+        multiplicity += 1;
     }
     Rest {
-        coefs: f,
-        degree: e,
-        times: k,
+        left,
+        times: multiplicity,
     }
 }
 
-// a, of degree n, divided by x - c as often as it goes: where p² is at most n by (x - c)^k first, for the powers k of p from the largest down.
-pub fn divide_root(a: Coefs, n: usize, c: u16, p: u16) -> Rest
-    requires { Prime p × (p < 256) × (n < 33) × (c < p) × Reduced p 33 a × Monic n (poly p a) }
-    ensures { DividedOut p (poly p a) n (linear (residue p c)) 1 result }
+// a divided by x - c as often as it goes, modulo p: where p² is at most its degree by (x - c)^k first, for the powers k of p from the largest down.
+pub fn divide_root(a: MonicPoly, c: u16) -> Rest
+    requires { Prime a.n × (a.n < 256) × (c < a.n) }
+    ensures { DividedOut a.n (poly a.n a.coefs) a.degree (linear (residue a.n c)) 1 result × (result.left.n ≡ a.n) }
 {
-    let step = p as usize;
-    if n < step * step {
-        return divide_linear_out(a, n, c, p);
+    let p = a.n as usize;
+    if a.degree < p * p {
+        return divide_linear_out(a, c);
     }
-    let mut f = a;
-    let mut e = n;
-    let mut m: usize = 0;
-    let mut k = largest_power(n, p);
+    let mut left = a;
+    let mut times: usize = 0;
+    let mut k = largest_power(a.degree, a.n);
     while 1 < k {
-        let t = divide_power(f, e, k, c, p);
-        let q = t.coefs;
-        f = q;
-        e = t.degree;
-        m += t.times;
-        k /= step;
+        let t = divide_power(left, k, c);
+        left = t.left;
+        times += t.times;
+        k /= p;
     }
-    let t = divide_linear_out(f, e, c, p);
-    let q = t.coefs;
+    let t = divide_linear_out(left, c);
     Rest {
-        coefs: q,
-        degree: t.degree,
-        times: m + t.times,
+        left: t.left,
+        times: times + t.times,
     }
 }
 
-// a, of degree n, divided by the monic g of degree d as often as it goes.
-pub fn divide_out(a: Coefs, n: usize, g: Coefs, d: usize, p: u16) -> Rest
-    requires { Prime p × (n < 33) × (0 < d) × (d < 33) × Reduced p 33 a × Monic n (poly p a) × Reduced p 33 g × Monic d (poly p g) }
-    ensures { DividedOut p (poly p a) n (poly p g) d result }
+// a divided by g as often as it goes.
+pub fn divide_out(a: MonicPoly, g: MonicPoly) -> Rest
+    requires { Prime a.n × (g.n ≡ a.n) × (0 < g.degree) }
+    ensures { DividedOut a.n (poly a.n a.coefs) a.degree (poly a.n g.coefs) g.degree result × (result.left.n ≡ a.n) }
 {
-    let mut f = a;
-    let mut e = n;
-    let mut m: usize = 0;
-    while d <= e {
-        let t = division::divide(f, e + 1, g, d, p);
-        let r = t.remainder;
-        if arrays::size_below(&r, d) != 0 {
-            return Rest {
-                coefs: f,
-                degree: e,
-                times: m,
-            };
+    let mut left = a;
+    let mut times: usize = 0;
+    while g.degree <= left.degree {
+        let t = division::divide(left.coefs, left.degree + 1, g);
+        if arrays::size_below(&t.remainder, g.degree) != 0 {
+            return Rest { left, times };
         }
-        let q = t.quotient;
-        f = q;
-        e -= d;
-        m += 1;
+        left = MonicPoly {
+            coefs: t.quotient,
+            degree: left.degree - g.degree,
+            n: a.n,
+        };
+        times += 1;
     }
-    Rest {
-        coefs: f,
-        degree: e,
-        times: m,
-    }
+    Rest { left, times }
 }

@@ -1,26 +1,19 @@
--- The loops of `over` and `modulo`: every entry divided by p, and every entry modulo n.
--- Proves what the arrays they leave are. Assumes nothing.
+-- The loop of `modulo`: every entry modulo n.
+-- Proves what the array it leaves is. Assumes nothing.
 use mathlib.Core.Path.{◌≡◌, sym, ◌∙◌, ap}
-use mathlib.Core.List.{List, map}
+use mathlib.Core.List.{List}
 use mathlib.Core.Logic.{⊎_elim}
-use Prim.Native.Nat.{ℕ, ◌≤◌, ◌<◌, ◌/◌, ◌%◌, zero-le}
-use native.Mathlib.Nat.{zero-div, zero-mod, mod-lt}
+use Prim.Native.Nat.{ℕ, ◌≤◌, ◌<◌, ◌%◌, zero-le}
+use native.Mathlib.Nat.{zero-mod, mod-lt}
 use native.Mathlib.Omega.{arith}
-use lib.ListN.{length, get_or, length-map}
-use lib.Seq.{ext_get_or}
+use lib.ListN.{length, get_or}
 use Rattle.lists.specs.Entries.{Replaced}
 use Rattle.lists.specs.Places.{from_end}
 use Rattle.algebra.specs.Numbers.{lt_or_le}
 use Rattle.algebra.specs.Residues.{residue, residue_mod}
 use Rattle.algebra.specs.PolynomialRing.{poly_ext}
 use Rattle.algebra.specs.CoefficientLists.{poly, coef_poly}
-use Rattle.algebra.specs.ListShapes.{get_d_map}
 use Rattle.arrays.specs.Represents.{Represents}
-
-pub over_done : (p : ℕ) {a r : List ℕ} {i : ℕ} → Replaced 0 (λ j. get_or a j 0 / p) a 0 r i → length a ≤ i → r ≡ map (λ v. v / p) a
-over_done p {a} {r} w past =
-    ext_get_or 0 r (map (λ v. v / p) a) (w.len ∙ sym (length-map a (λ v. v / p)))
-    (λ j l. w.new j zero-le (omega (arith, w.len)) ∙ sym (get_d_map (λ v. v / p) (zero-div p) a j))
 
 pub modulo_done : (n : ℕ) {a r : List ℕ} {i : ℕ} → 0 < n → length a ≡ 33 → Replaced 0 (λ j. get_or a j 0 % n) a 0 r i → 33 ≤ i → Represents n r (poly n a)
 modulo_done n {a} {r} {i} pos long w past = record {

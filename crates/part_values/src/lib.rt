@@ -3,18 +3,18 @@
 // What is public is so for the crates above, and no entry point of the library.
 #![tactic(auto)]
 
-ghost use Rattle.std.specs.Prelude.{◌≡◌, true, List, ◌≢◌, ℕ, ◌<◌, ◌≤◌, ◌%◌, ◌*◌};
+ghost use Rattle.std.specs.Prelude.{◌≡◌, true, List, ◌≢◌, ℕ, ◌≤◌, ◌%◌, ◌*◌};
 ghost use Rattle.specification.specs.Limits.{taken, ◌²};
 ghost use Rattle.specification.specs.Polynomials as spec;
 ghost use Rattle.algebra.specs.Divisibility.{pow};
 ghost use Rattle.algebra.specs.PolynomialRing.{𝟎};
-ghost use Rattle.algebra.specs.Degree.{Below, Monic};
+ghost use Rattle.algebra.specs.Degree.{Below};
 ghost use Rattle.algebra.specs.CoefficientLists.{poly, Reduced, 𝓩[x]/};
 ghost use Rattle.arrays.specs.Represents.{Represents};
 ghost use Rattle.part_values.specs.Given.{Given};
 ghost use Rattle.part_values.specs.ArrayValues.{IsDigitLift, IsHBar, AreM1AndW, IsU, PowerOver, HBarOver, WOver};
 
-use arrays::{Coefs, size_below};
+use arrays::{Coefs, MonicPoly, size_below};
 use division::divide;
 use modular::{add_multiple, difference, multiple, over, product};
 use residues::{inverse, reduce};
@@ -33,22 +33,22 @@ pub fn digit_lift(base: Coefs) -> Coefs
     base
 }
 
-// a^k modulo n, where a is monic of degree d: the square of the power to k / 2, and once more a where k is odd.
-pub fn power(a: Coefs, d: usize, k: usize, n: u16) -> Coefs
-    requires { (1 ≤ k) × (k * d ≤ 32) × Monic d (poly n a) × Reduced n 33 a }
-    ensures { Represents n result (pow (𝓩[x]/ n) (poly n a) k) }
+// a^k, modulo the n of a: the square of the power to k / 2, and once more a where k is odd.
+pub fn power(a: MonicPoly, k: usize) -> Coefs
+    requires { (1 ≤ k) × (k * a.degree ≤ 32) }
+    ensures { Represents a.n result (pow (𝓩[x]/ a.n) (poly a.n a.coefs) k) }
 {
     if k == 1 {
-        return a;
+        return a.coefs;
     }
     let half = k / 2;
-    let h = power(a, d, half, n);
-    let e = half * d;
-    let s = product(h, e + 1, h, e + 1, n);
+    let h = power(a, half);
+    let e = half * a.degree;
+    let s = product(h, e + 1, h, e + 1, a.n);
     if k % 2 == 0 {
         return s;
     }
-    product(a, d + 1, s, 2 * e + 1, n)
+    product(a.coefs, a.degree + 1, s, 2 * e + 1, a.n)
 }
 
 // "determine h so that ph = f − g^m", where g^m is in `whole`: the bar of h. The entries of f − g^m are multiples of p below p², so divided by p they are
@@ -64,15 +64,15 @@ pub fn h_bar(whole: Coefs, f: Coefs, p: u16) -> Coefs
 
 // "Determine the maximum m1 so that G^m1 | h̄ and determine w so that h̄ = G^m1·w̄": after k divisions h̄ = G^k·w. h̄ is not zero and of lower degree than G^m,
 // so m1 is below m.
-pub fn highest(h: Coefs, base: Coefs, d: usize, m: usize, p: u16) -> Multiplicity
-    requires { HBarOver p base d m h × (poly p h ≢ 𝟎) }
-    ensures { (H : HBarOver p base d m h) → AreM1AndW p base H.g d m H.part result.m1 result.w }
+pub fn highest(h: Coefs, base: MonicPoly, m: usize) -> Multiplicity
+    requires { HBarOver base.n base.coefs base.degree m h × (poly base.n h ≢ 𝟎) }
+    ensures { (H : HBarOver base.n base.coefs base.degree m h) → AreM1AndW base.n base.coefs H.g base.degree m H.part result.m1 result.w }
 {
     let most = m - 1;
     let mut w = h;
     for k in 0..most {
-        let v = divide(w, (m - k) * d, base, d, p);
-        let terms = size_below(&v.remainder, d);
+        let v = divide(w, (m - k) * base.degree, base);
+        let terms = size_below(&v.remainder, base.degree);
         if terms != 0 {
             return Multiplicity { m1: k, w };
         }
@@ -81,13 +81,13 @@ pub fn highest(h: Coefs, base: Coefs, d: usize, m: usize, p: u16) -> Multiplicit
     Multiplicity { m1: most, w }
 }
 
-// "g^(m−m1) + pw", where k is m − m1, g is monic of degree d and w of lower degree than g^k.
-pub fn last_factor(g: Coefs, d: usize, k: usize, w: Coefs, p: u16) -> Coefs
-    requires { (taken p ≡ true) × (1 ≤ k) × (k * d ≤ 32) × Monic d (poly (p ²) g) × Reduced p 33 w × Below (k * d) (poly p w) × Reduced (p ²) 33 g }
-    ensures { Represents (p ²) result (poly (p ²) (spec.lift p (spec.pow (p ²) g k) w)) }
+// "g^(m−m1) + pw", where k is m − m1, g is monic modulo p² and w of lower degree than g^k.
+pub fn last_factor(g: MonicPoly, k: usize, w: Coefs, p: u16) -> Coefs
+    requires { (taken p ≡ true) × (g.n ≡ p ²) × (1 ≤ k) × (k * g.degree ≤ 32) × Reduced p 33 w × Below (k * g.degree) (poly p w) }
+    ensures { Represents (p ²) result (poly (p ²) (spec.lift p (spec.pow (p ²) g.coefs k) w)) }
 {
-    let q = power(g, d, k, p * p);
-    lifted(q, w, k * d, p)
+    let q = power(g, k);
+    lifted(q, w, k * g.degree, p)
 }
 
 // "Choose u such that ū = (m̄)^−1·w̄", where p does not divide m and w is of lower degree than G. m may be above p: what it leaves is inverted.

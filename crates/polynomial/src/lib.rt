@@ -11,7 +11,7 @@ ghost use Rattle.refusals.specs.Numbers.{number_of};
 ghost use Rattle.polynomial.specs.AsRecord.{as_record, as_result, as_division, accepted, refused_record, refused, divided, refused_division};
 ghost use Rattle.polynomial.specs.Checked.{checked};
 
-use arrays::{Coefs, monomial, size};
+use arrays::{Coefs, MonicPoly, monomial, size};
 use refusals::Refusal;
 
 // A polynomial record: a prime and 33 coefficients, constant first.
@@ -243,7 +243,13 @@ pub fn divide(a: Poly, b: Poly) -> Division
         Ok(()) => {
             let s = size(a.coefs);
             let t = size(b.coefs);
-            let d = division::divide(a.coefs, s, b.coefs, t - 1, square(a.prime));
+            let coefs = b.coefs;
+            let divisor = MonicPoly {
+                coefs,
+                degree: t - 1,
+                n: square(a.prime),
+            };
+            let d = division::divide(a.coefs, s, divisor);
             accept_division(a.prime, d.quotient, d.remainder)
         }
         Err(why) => refuse_division(why),

@@ -1,6 +1,6 @@
 -- Places in the list of taken primes: `Place p r`, p is taken and stands at the place that r gives, or r gives none and p is not taken.
 -- Proves it of what a search through the list finds, however long the list is. Assumes nothing.
-use Rattle.std.specs.Prelude.{◌≡◌, true, false, List, ℕ, ◌<◌, T, Option, MatchOption, eqb, length, get_or}
+use Rattle.std.specs.Prelude.{◌≡◌, true, false, List, ℕ, ◌<◌, T, Option, Some, None, MatchOption, eqb, length, get_or}
 use Rattle.std.proofs.Math.Path.{sym}
 use Rattle.std.proofs.Common.{◌∙◌, subst, eqb→eq}
 use Rattle.std.proofs.Math.Dec.{eqb_refl}
@@ -35,3 +35,11 @@ module _ (p : ℕ) where
   pub place_none : ((k : ℕ) → k < length primes → get_or primes k 0 ≡ p → ⊥) → taken p ≡ false
   unfolding taken
   place_none h = no_member primes (λ k l e. h k l (sym e))
+
+-- at a place of the list stands the number that was looked for, and it is taken
+pub placed : (p : ℕ) {i : ℕ} {r : Option ℕ} → Place p r → r ≡ Some i → (taken p ≡ true) × (get_or primes i 0 ≡ p)
+placed p w is = let s = rw is at w in (s.listed, s.entry)
+
+-- a number without a place is not taken
+pub not_placed : (p : ℕ) {r : Option ℕ} → Place p r → r ≡ None → taken p ≡ false
+not_placed p w is = rw is at w

@@ -1,7 +1,7 @@
 // The taken primes, which no other place of the code lists. What is public is so for the crates above, and no entry point of the library.
 #![tactic(auto)]
 
-ghost use Rattle.std.specs.Prelude.{◌≡◌};
+ghost use Rattle.std.specs.Prelude.{◌≡◌, true, false, MatchOption};
 ghost use Rattle.specification.specs.Limits as limits;
 ghost use Rattle.primes.specs.PrimePlaces.{Place};
 
@@ -23,4 +23,26 @@ pub fn taken(prime: u8) -> bool
     ensures { result ≡ limits.taken prime }
 {
     place(prime).is_some()
+}
+
+// A prime that is taken, below 256.
+#[derive(Clone, Copy)]
+pub struct TakenPrime {
+    pub value: u8,
+    pub ghost taken: { limits.taken value ≡ true },
+}
+
+impl TakenPrime {
+    pub const TWO: TakenPrime = TakenPrime { value: 2 };
+
+    // The number as a prime; none for a number that is not taken.
+    pub fn new(value: u8) -> Option<TakenPrime>
+        ensures { MatchOption result (limits.taken value ≡ false) (λ p. p.value ≡ value) }
+    {
+        if taken(value) {
+            Some(TakenPrime { value })
+        } else {
+            None
+        }
+    }
 }

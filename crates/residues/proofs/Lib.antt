@@ -1,3 +1,2 @@
 pub mod Reciprocals
-pub mod Widths
 pub mod InverseDescent

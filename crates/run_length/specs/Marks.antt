@@ -1,7 +1,6 @@
--- Marks of remainders: `marked w a`, a number that equal arrays share; `Marks`, the table holds the marks of x^0, x^1, .. modulo q; `LastWith`,
--- where a mark stands last in it.
+-- Marks of remainders: `marked w a`, a number that equal arrays share; `Marks`, the table holds the marks of x^0, x^1, .. modulo q.
 -- Assumes nothing.
-use Rattle.std.specs.Prelude.{◌≡◌, List, ◌≢◌, ℕ, zero, suc, ◌≤◌, ◌<◌, ◌%◌, ◌+◌, ◌*◌, Option, MatchOption, length, get_or}
+use Rattle.std.specs.Prelude.{◌≡◌, List, ℕ, zero, suc, ◌<◌, ◌%◌, ◌+◌, ◌*◌, length, get_or}
 use Rattle.algebra.specs.Monomials.{x^}
 use Rattle.quotients.specs.Remainder.{Remainder}
 
@@ -22,17 +21,3 @@ small_steps = 1024
 pub record Marks (n : ℕ) (q : List ℕ) (d : ℕ) (w table : List ℕ) (i : ℕ) : Type 0 where
   pub long : length table ≡ small_steps
   pub at : (k : ℕ) → k < i → (r : List ℕ) → Remainder n q d r (x^ k) → get_or table k 0 ≡ marked w r
-
--- from i on and before `end` no place holds m
-pub record NoneWith (table : List ℕ) (m «end» i : ℕ) : Type 0 where
-  pub within : i ≤ «end»
-  pub after : (k : ℕ) → i ≤ k → k < «end» → get_or table k 0 ≢ m
-
--- i is the last place before `end` that holds m
-pub record LastAt (table : List ℕ) (m «end» i : ℕ) : Type 0 where
-  pub none : NoneWith table m «end» (i + 1)
-  pub here : get_or table i 0 ≡ m
-
--- r is that place, or there is none
-abbrev pub LastWith : List ℕ → ℕ → ℕ → Option ℕ → Type 0
-LastWith table m e r = MatchOption r (NoneWith table m e 0) (λ i. LastAt table m e i)

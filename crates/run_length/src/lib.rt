@@ -5,20 +5,22 @@
 
 ghost use Rattle.std.specs.Prelude.{◌≡◌, ◌<◌, ◌≤◌, ◌+◌, ◌-◌, ◌*◌, T, length, get_or};
 ghost use Rattle.specification.specs.RunLength as lengths;
+ghost use Rattle.lists.specs.Decides.{Decides};
 ghost use Rattle.lists.specs.Entries.{Replaced};
 ghost use Rattle.algebra.specs.Degree.{Below};
 ghost use Rattle.algebra.specs.CoefficientLists.{poly, Reduced};
 ghost use Rattle.algebra.specs.Monomials.{x^};
 ghost use Rattle.arrays.specs.Listed.{listed};
-ghost use Rattle.arrays.specs.Held.{MonicArray, MonicModSquare};
+ghost use Rattle.arrays.specs.Held.{MonicModSquare};
 ghost use Rattle.quotients.specs.Remainder.{Remainder};
-ghost use Rattle.run_length.specs.Marks.{small_steps, marked, Marks, LastWith};
-ghost use Rattle.run_length.specs.Meetings.{Meeting};
+ghost use Rattle.run_length.specs.Marks.{small_steps, marked, Marks};
+ghost use Rattle.run_length.specs.Meetings.{IsPower, Meeting};
 ghost use Rattle.run_length.specs.Rows.{Rows, SmallRows, GreatStep};
 
-use arrays::{Coefs, equal, monomial};
-use modular::add_in_place;
+use arrays::{Coefs, MonicPoly, equal, monomial};
+use modular::add_by;
 use quotients::{shift, times_power_of_x};
+use residues::Modulus;
 
 // How many small steps there are.
 const SMALL: usize = 1024;
@@ -48,39 +50,43 @@ fn mark(a: &[u16; 33], w: &[u16; 33]) -> u32
 }
 
 // The marks of x^0 to x^1023 modulo f; gives x^1024.
-fn small_steps(marks: &mut [u32], f: Coefs, d: usize, n: u16, w: &[u16; 33]) -> Coefs
-    requires { (1 < n) × (0 < d) × MonicArray n d f × (length marks.old ≡ small_steps) }
-    ensures { Marks n f d w.now marks.new small_steps × Remainder n f d result (x^ small_steps) }
+fn small_steps(marks: &mut [u32], f: &MonicPoly, w: &[u16; 33]) -> Coefs
+    requires { (1 < f.now.n) × (0 < f.now.degree) × (length marks.old ≡ small_steps) }
+    ensures { Marks f.now.n f.now.coefs f.now.degree w.now marks.new small_steps
+        × Remainder f.now.n f.now.coefs f.now.degree result (x^ small_steps) }
 {
     let mut r = monomial(0);
     for i in 0..SMALL {
         marks[i] = mark(&r, w);
-        shift(&mut r, &f, d, n);
+        shift(&mut r, f);
     }
     r
 }
 
-// The last place before `end` that has the mark, if there is one.
-fn last_with(marks: &[u32], m: u32, end: usize) -> Option<usize>
-    requires { «end» ≤ length marks.now }
-    ensures { LastWith marks.now m «end» result }
+// g is x^i modulo f.
+fn is_power(i: usize, g: Coefs, f: &MonicPoly) -> bool
+    requires { (1 < f.now.n) × (0 < f.now.degree) × Reduced f.now.n 33 g × Below f.now.degree (poly f.now.n g) }
+    ensures { Decides result (IsPower f.now.n f.now.coefs g i) }
 {
-    marks[..end].iter().rposition(|&k| k == m)
+    equal(times_power_of_x(i, monomial(0), *f), g)
 }
 
-// The highest small step that is g, if there is one. Marks that agree by chance cost only time.
-fn meeting(marks: &[u32], g: Coefs, f: Coefs, d: usize, n: u16, w: &[u16; 33]) -> Option<usize>
-    requires { (1 < n) × (0 < d) × MonicArray n d f × Marks n f d w.now marks.now small_steps × Reduced n 33 g × Below d (poly n g) }
-    ensures { Meeting n f g result }
+// The highest small step that is g, if there is one. Few great steps share a mark with a small one, and `contains` looks at several marks at a time. Marks that
+// agree by chance cost only time.
+fn meeting(marks: &[u32], g: Coefs, f: &MonicPoly, w: &[u16; 33]) -> Option<usize>
+    requires { (1 < f.now.n) × (0 < f.now.degree) × Marks f.now.n f.now.coefs f.now.degree w.now marks.now small_steps × Reduced f.now.n 33 g
+        × Below f.now.degree (poly f.now.n g) }
+    ensures { Meeting f.now.n f.now.coefs g result }
 {
     let m = mark(&g, w);
-    let mut end = SMALL;
-    while let Some(i) = last_with(marks, m, end) {
-        let r = times_power_of_x(i, monomial(0), f, d, n);
-        if equal(r, g) {
+    if !marks.contains(&m) {
+        return None;
+    }
+    for i in (0..SMALL).rev() {
+        let met = marks[i] == m && is_power(i, g, f);
+        if met {
             return Some(i);
         }
-        end = i;
     }
     None
 }
@@ -94,26 +100,27 @@ fn store_row(rows: &mut [u16], k: usize, t: &[u16; 33])
 }
 
 // x^i·y modulo f for i below d, in rows of 33 entries: the map that takes g to g·y.
-fn rows_of(rows: &mut [u16], y: Coefs, f: Coefs, d: usize, n: u16)
-    requires { (d * 33 ≤ length rows.old) × MonicArray n d f × Reduced n 33 y × Below d (poly n y) }
-    ensures { Rows n f d y d rows.new }
+fn rows_of(rows: &mut [u16], y: Coefs, f: &MonicPoly)
+    requires { (f.now.degree * 33 ≤ length rows.old) × Reduced f.now.n 33 y × Below f.now.degree (poly f.now.n y) }
+    ensures { Rows f.now.n f.now.coefs f.now.degree y f.now.degree rows.new }
 {
     let mut t = y;
-    for i in 0..d {
+    for i in 0..f.degree {
         store_row(rows, i * 33, &t);
-        shift(&mut t, &f, d, n);
+        shift(&mut t, f);
     }
 }
 
 // g·y modulo f, from the rows of y: d additions, and no shift.
-fn great_step(rows: &[u16], g: Coefs, d: usize, n: u16) -> Coefs
-    requires { (0 < n) × (d < 33) × SmallRows n d rows.now × Reduced n 33 g × Below d (poly n g) }
-    ensures { GreatStep n d rows.now g result }
+fn great_step(rows: &[u16], g: Coefs, f: &MonicPoly) -> Coefs
+    requires { SmallRows f.now.n f.now.degree rows.now × Reduced f.now.n 33 g × Below f.now.degree (poly f.now.n g) }
+    ensures { GreatStep f.now.n f.now.degree rows.now g result }
 {
+    let modulus = Modulus::new(f.n);
     let mut r = [0u16; 33];
-    for i in 0..d {
+    for i in 0..f.degree {
         let k = i * 33;
-        add_in_place(&mut r, g[i], &rows[k..k + 33], d, n);
+        add_by(&mut r, g[i], &rows[k..k + 33], f.degree, modulus);
     }
     r
 }
@@ -123,22 +130,26 @@ pub fn run_length(f: Coefs, d: usize, p: u16) -> u16
     requires { MonicModSquare p f d × T (lengths.has_run p (listed d f)) }
     ensures { result ≡ lengths.run_length p (listed d f) }
 {
-    let n = p * p;
+    let q = MonicPoly {
+        coefs: f,
+        degree: d,
+        n: p * p,
+    };
     let w = WEIGHTS;
     let mut marks = [0u32; SMALL];
-    let y = small_steps(&mut marks, f, d, n, &w);
+    let y = small_steps(&mut marks, &q, &w);
     let mut rows = [0u16; ROWS];
-    rows_of(&mut rows, y, f, d, n);
+    rows_of(&mut rows, y, &q);
     let mut g = y;
     for j in 1..=GREAT {
-        if let Some(i) = meeting(&marks, g, f, d, n, &w) {
+        if let Some(i) = meeting(&marks, g, &q, &w) {
             let k = j * SMALL - i;
             if k <= 65535 {
                 return k as u16;
             }
             return 0;
         }
-        let v = great_step(&rows, g, d, n);
+        let v = great_step(&rows, g, &q);
         g = v;
     }
     0

@@ -6,7 +6,7 @@ ghost use Rattle.std.specs.Prelude.{◌≤◌, length};
 ghost use Rattle.specification.specs.Limits.{answer_area};
 ghost use Rattle.sheet_output.specs.Sent.{Sent};
 
-use split_text::refusal_text;
+use split_text::outcome_text;
 use splitter::typed;
 
 // For any bytes, a line or not, from the start of the area on.
@@ -15,8 +15,5 @@ pub fn write_output(out: &mut [u8], line: &[u8]) -> usize
     ensures { Sent line.now out.old out.new result }
 {
     let called = typed(line, out);
-    if called.number != 0 {
-        return refusal_text(out, called.number, called.place);
-    }
-    called.count
+    outcome_text(out, called)
 }

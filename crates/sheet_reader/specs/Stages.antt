@@ -1,6 +1,7 @@
 -- From stage to stage of a sheet's reading: `LeftOf`, what is left to read at a place.
 -- Proves how it begins, that the fault of a step is the answer's, what is read at the end, and that a step in a part is one of the sheet. Assumes nothing.
 use Rattle.std.specs.Prelude.{◌≡◌, List, ℕ, ◌+◌, ◌-◌, ◌≤◌, ◌<◌, length, take, drop, Ok, Err}
+use Rattle.std.specs.Result.{result_err}
 use Rattle.std.proofs.Math.Path.{refl}
 use Rattle.std.proofs.Common.{sym, ◌∙◌, ap, ap₂, subst, zero-le, zero-add, arith, length-drop, take_all, drop-drop}
 use Rattle.std.proofs.Math.ListN.{drop_of_length-le}
@@ -54,6 +55,11 @@ length_part bytes start l = omega (arith, ap length (part_is_lem bytes start), l
 abbrev pub moved : {V : Type 0} → ℕ → Step V → Step V
 moved start (Ok t) = Ok (t.0, start + t.1)
 moved start (Err e) = Err e
+
+-- its refusal is the same
+pub refusal_moved : {V : Type 0} (start : ℕ) (s : Step V) → result_err s ≡ result_err (moved start s)
+refusal_moved start (Ok t) = refl
+refusal_moved start (Err e) = refl
 
 pub from_part : {V A : Type 0} {meant : V → A} {r : Reader A} {Good : V → Type 0} {bytes : List ℕ} {start : ℕ} {s : Step V} → start ≤ length bytes
     → StepAs meant r Good (part_from bytes start) start 0 s → StepAs meant r Good bytes 0 start (moved start s)

@@ -2,7 +2,7 @@
 -- Proves it of a byte, of a judged value, of a number of two bytes, of a command with its operand and of one that is there or not, what it means that a
 -- command comes next, and how a reading goes on after a step. Assumes nothing.
 use Rattle.std.specs.Prelude.{◌≡◌, refl, Bool, true, false, List, ◌∷◌, length, get_or, drop, T, eqb, Result, Ok, Err, IsErrAnd}
-use Rattle.std.proofs.Common.{sym, ◌∙◌, ap, ap₂, zero-add, drop_of_length-le, drop-cons, lt-ltb, eqb-true}
+use Rattle.std.proofs.Common.{sym, ◌∙◌, ap, ap₂, subst, zero-add, drop_of_length-le, drop-cons, lt-ltb, eqb-true}
 use Rattle.std.proofs.lemmas.Result.{err_from_is_err_and}
 use Rattle.std.proofs.lemmas.Bool.{false≢true, eqb-false}
 use Prim.Native.Nat.{ℕ, suc, ◌+◌, ◌*◌, ◌<◌, ◌≤◌}
@@ -49,6 +49,17 @@ pub record StepAs {V A : Type 0} (meant : V → A) (r : Reader A) (Good : V → 
 -- of a reader of numbers, each below a limit
 abbrev pub StepOf : Reader ℕ → ℕ → List ℕ → ℕ → ℕ → Step ℕ → Type 0
 StepOf r limit = StepAs (λ v. v) r (λ v. v < limit)
+
+module _ {V A : Type 0} {meant : V → A} {r : Reader A} {Good : V → Type 0} {part : List ℕ} {start at : ℕ} {s : Step V}
+    (w : StepAs meant r Good part start at s) where
+  pub step_inside : {t : V × ℕ} → s ≡ Ok t → Inside Good part at t
+  step_inside e = subst (StepInside Good part at) e w.inside
+
+  pub step_got : {t : V × ℕ} → s ≡ Ok t → read_at r part start at ≡ got (meant t.0) (start + t.1) (drop t.1 part)
+  step_got e = w.same ∙ ap (as_read meant part start) e
+
+  pub step_stops : {e : Refused} → s ≡ Err e → read_at r part start at ≡ stop (number_of e.why) e.place
+  step_stops e = w.same ∙ ap (as_read meant part start) e
 
 -- a fault is a step of whatever reader stops there
 pub step_fault : {V A : Type 0} {meant : V → A} {r : Reader A} {Good : V → Type 0} {part : List ℕ} {start at : ℕ} {e : Refused}
@@ -119,70 +130,72 @@ module _ (code : ℕ) {part : List ℕ} {at : ℕ} where
 abbrev pub FlagOf : (code k : ℕ) (allowed : Bool) → List ℕ → ℕ → ℕ → Step Bool → Type 0
 FlagOf code k allowed = StepAs (λ v. v) (flag code k allowed) (λ v. Unit {0})
 
-module _ (code : ℕ) (why : Refusal) (allowed : Bool) {part : List ℕ} {start at : ℕ} {r : Bool} (next : Comes code part at r) where
-  pub flag_none : at ≤ length part → r ≡ false → FlagOf code (number_of why) allowed part start at (Ok (false, at))
+module _ (code k : ℕ) (allowed : Bool) {part : List ℕ} {start at : ℕ} {r : Bool} (next : Comes code part at r) where
+  pub flag_none : at ≤ length part → r ≡ false → FlagOf code k allowed part start at (Ok (false, at))
   flag_none l e = record {
-    same = laws.flag_none code (number_of why) allowed (start + at) (drop at part) (next.other e);
+    same = laws.flag_none code k allowed (start + at) (drop at part) (next.other e);
     inside = record { good = tt; on = omega arith; reach = l };
   }
 
-  pub flag_there : r ≡ true → T allowed → FlagOf code (number_of why) allowed part start at (Ok (true, at + 1))
+  pub flag_there : r ≡ true → T allowed → FlagOf code k allowed part start at (Ok (true, at + 1))
   flag_there e t =
       let (l, bytes) = next.there e in
       record {
         same = rw bytes
-            (laws.flag_there code (number_of why) allowed (start + at) (drop (at + 1) part) t
+            (laws.flag_there code k allowed (start + at) (drop (at + 1) part) t
             ∙ ap (λ (place : ℕ). got true place (drop (at + 1) part)) (let q : start + at + 1 ≡ start + (at + 1) = omega arith in q));
         inside = record { good = tt; on = omega arith; reach = omega arith };
       }
 
-  pub flag_wrong : r ≡ true → (T allowed → ⊥) → {e : Refused} {place : ℕ} → e ≡ record { why = why; place = place } → place ≡ start + at
-      → FlagOf code (number_of why) allowed part start at (Err e)
-  flag_wrong e h is p =
-      step_fault (rw (is, (next.there e).1) (laws.flag_stops code (number_of why) allowed (start + at) (drop (at + 1) part) h ∙ ap (stop (number_of why)) (sym p)))
+pub flag_wrong : (code : ℕ) (why : Refusal) (allowed : Bool) {part : List ℕ} {start at : ℕ} {r : Bool} → Comes code part at r → r ≡ true → (T allowed → ⊥)
+    → {e : Refused} {place : ℕ} → e ≡ record { why = why; place = place } → place ≡ start + at → FlagOf code (number_of why) allowed part start at (Err e)
+flag_wrong code why allowed {part} {start} {at} next e h is p =
+    step_fault (rw (is, (next.there e).1) (laws.flag_stops code (number_of why) allowed (start + at) (drop (at + 1) part) h ∙ ap (stop (number_of why)) (sym p)))
 
 -- ---- a judged value
 
-module _ {r : Reader ℕ} {limit : ℕ} {part : List ℕ} {start at : ℕ} (why : Refusal) (good : ℕ → Bool) where
-  -- it is good, and below another limit
-  pub judged_taken : {t : ℕ × ℕ} {lower : ℕ} → StepOf r limit part start at (Ok t) → t.0 < lower → T (good t.0)
-      → StepOf (judged (number_of why) good r) lower part start at (Ok t)
-  unfolding judged go_on
-  judged_taken w l h = record {
-    same = rw (w.same, passes (good _) h) refl;
-    inside = record { good = l; on = w.inside.on; reach = w.inside.reach };
-  }
+module _ {r : Reader ℕ} {limit : ℕ} {part : List ℕ} {start at : ℕ} where
+  module _ (k : ℕ) (good : ℕ → Bool) where
+    -- it is good, and below another limit
+    pub judged_taken : {t : ℕ × ℕ} {lower : ℕ} → StepOf r limit part start at (Ok t) → t.0 < lower → T (good t.0)
+        → StepOf (judged k good r) lower part start at (Ok t)
+    unfolding judged go_on
+    judged_taken w l h = record {
+      same = rw (w.same, passes (good _) h) refl;
+      inside = record { good = l; on = w.inside.on; reach = w.inside.reach };
+    }
 
-  pub judged_wrong : {t : ℕ × ℕ} {lower place : ℕ} {e : Refused} → StepOf r limit part start at (Ok t) → (T (good t.0) → ⊥)
-      → e ≡ record { why = why; place = place } → place ≡ start + at → StepOf (judged (number_of why) good r) lower part start at (Err e)
-  unfolding judged go_on
-  judged_wrong w h is p = step_fault (rw (is, w.same, fails (good _) h) (ap (stop (number_of why)) (sym p)))
+    pub judged_ends : {lower : ℕ} {e : Refused} → StepOf r limit part start at (Err e) → StepOf (judged k good r) lower part start at (Err e)
+    unfolding judged go_on
+    judged_ends w = step_fault (rw w.same refl)
 
-  pub judged_ends : {lower : ℕ} {e : Refused} → StepOf r limit part start at (Err e) → StepOf (judged (number_of why) good r) lower part start at (Err e)
+  pub judged_wrong : (why : Refusal) (good : ℕ → Bool) {t : ℕ × ℕ} {lower place : ℕ} {e : Refused} → StepOf r limit part start at (Ok t)
+      → (T (good t.0) → ⊥) → e ≡ record { why = why; place = place } → place ≡ start + at
+      → StepOf (judged (number_of why) good r) lower part start at (Err e)
   unfolding judged go_on
-  judged_ends w = step_fault (rw w.same refl)
+  judged_wrong why good w h is p = step_fault (rw (is, w.same, fails (good _) h) (ap (stop (number_of why)) (sym p)))
 
 -- ---- a number of two bytes
 
-module _ (why : Refusal) {part : List ℕ} {start at : ℕ} where
-  pub two_none : {e : Refused} → StepOf byte 256 part start at (Err e) → StepOf (two_byte_number (number_of why)) 65536 part start at (Err e)
+module _ (k : ℕ) {part : List ℕ} {start at : ℕ} where
+  pub two_none : {e : Refused} → StepOf byte 256 part start at (Err e) → StepOf (two_byte_number k) 65536 part start at (Err e)
   unfolding two_byte_number
-  two_none w = step_fault (then_stops (judged (number_of why) is_byte byte) _ (judged_ends why is_byte {lower = 256} w).same)
+  two_none w = step_fault (then_stops (judged k is_byte byte) _ (judged_ends k is_byte {lower = 256} w).same)
 
   -- the first is there, and the second is read
   module _ {t : ℕ × ℕ} (w : StepOf byte 256 part start at (Ok t)) where
-    goes : {B : Type 0} (f : ℕ → Reader B) → read_at (◌>>=◌ (judged (number_of why) is_byte byte) f) part start at ≡ read_at (f t.0) part start t.1
-    goes f = then_goes (judged (number_of why) is_byte byte) f (judged_taken why is_byte w small (rw (lt-ltb t.0 256 small) tt)).same
+    goes : {B : Type 0} (f : ℕ → Reader B) → read_at (◌>>=◌ (judged k is_byte byte) f) part start at ≡ read_at (f t.0) part start t.1
+    goes f = then_goes (judged k is_byte byte) f (judged_taken k is_byte w small (rw (lt-ltb t.0 256 small) tt)).same
       where
         small : t.0 < 256
         small = w.inside.good
 
-    pub two_half : {e : Refused} → StepOf byte 256 part start t.1 (Err e) → StepOf (two_byte_number (number_of why)) 65536 part start at (Err e)
+    pub two_half : {e : Refused} → StepOf byte 256 part start t.1 (Err e) → StepOf (two_byte_number k) 65536 part start at (Err e)
     unfolding two_byte_number
     two_half v = step_fault (goes _ ∙ then_stops byte _ v.same)
 
     pub two_taken : {u : ℕ × ℕ} → StepOf byte 256 part start t.1 (Ok u)
-        → StepOf (two_byte_number (number_of why)) 65536 part start at (Ok (t.0 + 256 * u.0, u.1))
+        → StepOf (two_byte_number k) 65536 part start at (Ok (t.0 + 256 * u.0, u.1))
     unfolding two_byte_number done
     two_taken v = record {
       same = goes _ ∙ then_goes byte _ v.same;
@@ -215,17 +228,26 @@ module _ (code : ℕ) {limit : ℕ} (r : Reader ℕ) {part : List ℕ} {start at
       from (Ok u) i = record { good = i.good; on = omega (arith, i.on, w.inside.on); reach = i.reach }
       from (Err e) i = tt
 
+-- a command of the sheet is there: what is read at the place `next` after it is the answer, and the byte there gives the step t
+pub record PastCommand (code : ℕ) (sheet : List ℕ) (at next : ℕ) (t : Step ℕ) : Type 0 where
+  pub answer : (r : Reader ℕ) {limit : ℕ} {s : Step ℕ} → StepOf r limit sheet 0 next s → StepOf (with_operand code r) limit sheet 0 at s
+  pub operand : StepOf byte 256 sheet 0 next t
+
+-- the command is taken, and the byte after it is read
+pub past_command : {code v next : ℕ} {sheet : List ℕ} {at : ℕ} {s t : Step ℕ} → StepOf (command_byte code) 256 sheet 0 at s → s ≡ Ok (v, next)
+    → StepOf byte 256 sheet 0 next t → PastCommand code sheet at next t
+past_command {code} w e o = record { answer = λ r. with_operand_lem code r (rw e at w); operand = o }
+
 -- the command with its judged operand
-module _ (code : ℕ) (why : Refusal) (good : ℕ → Bool) {sheet : List ℕ} {at : ℕ} {c : ℕ × ℕ} (w : StepOf (command_byte code) 256 sheet 0 at (Ok c)) where
-  abbrev Answer : ℕ → Step ℕ → Type 0
-  Answer limit = StepOf (with_operand code (judged (number_of why) good byte)) limit sheet 0 at
+module _ {code : ℕ} {sheet : List ℕ} {at next : ℕ} {t : Step ℕ} (w : PastCommand code sheet at next t) where
+  module _ (k : ℕ) (good : ℕ → Bool) where
+    pub operand_ends : {limit : ℕ} {e : Refused} → t ≡ Err e → StepOf (with_operand code (judged k good byte)) limit sheet 0 at (Err e)
+    operand_ends e = w.answer _ (judged_ends k good (rw e at w.operand))
 
-  pub operand_ends : {limit : ℕ} {e : Refused} → StepOf byte 256 sheet 0 c.1 (Err e) → Answer limit (Err e)
-  operand_ends v = with_operand_lem code _ w (judged_ends why good v)
+    pub operand_taken : {limit : ℕ} {u : ℕ × ℕ} → t ≡ Ok u → u.0 < limit → T (good u.0)
+        → StepOf (with_operand code (judged k good byte)) limit sheet 0 at (Ok u)
+    operand_taken e l h = w.answer _ (judged_taken k good (rw e at w.operand) l h)
 
-  pub operand_taken : {limit : ℕ} {t : ℕ × ℕ} → StepOf byte 256 sheet 0 c.1 (Ok t) → t.0 < limit → T (good t.0) → Answer limit (Ok t)
-  operand_taken v l h = with_operand_lem code _ w (judged_taken why good v l h)
-
-  pub operand_wrong : {limit : ℕ} {t : ℕ × ℕ} {e : Refused} → StepOf byte 256 sheet 0 c.1 (Ok t) → (T (good t.0) → ⊥)
-      → e ≡ record { why = why; place = c.1 } → Answer limit (Err e)
-  operand_wrong v h is = with_operand_lem code _ w (judged_wrong why good v h is (sym (zero-add c.1)))
+  pub operand_wrong : (why : Refusal) (good : ℕ → Bool) {limit : ℕ} {u : ℕ × ℕ} {e : Refused} → t ≡ Ok u → (T (good u.0) → ⊥)
+      → e ≡ record { why = why; place = next } → StepOf (with_operand code (judged (number_of why) good byte)) limit sheet 0 at (Err e)
+  operand_wrong why good e h is = w.answer _ (judged_wrong why good (rw e at w.operand) h is (sym (zero-add next)))

@@ -1,7 +1,7 @@
 -- The commands of an array's coefficients, as they are written one by one.
 -- Proves what is written for one coefficient, and how a loop writes all. Assumes nothing.
 use mathlib.Core.Path.{◌≡◌, sym, ◌∙◌, ap}
-use mathlib.Core.List.{List, [], ◌∷◌}
+use mathlib.Core.List.{[], ◌∷◌}
 use mathlib.Core.Logic.{◌≢◌}
 use Prim.Native.Nat.{ℕ}
 use native.Mathlib.Omega.{arith}
@@ -16,15 +16,15 @@ use Rattle.layouts.specs.CoefficientBytes.{
   coefficient_bytes_one,
   coefficient_bytes_next,
 }
-use Rattle.area.specs.Wrote.{Wrote, Room, wrote_as, wrote_none}
+use Rattle.area.specs.declared.Cursor.{Cursor}
+use Rattle.area.specs.Cursors.{Fits, Puts, puts_as, puts_none}
 use Rattle.area.proofs.Turns.{Turns}
 
 -- ---- one coefficient
 
 -- a coefficient that is 0 is not written
-pub wrote_zero : (area : List ℕ) (at p i v : ℕ) → v ≡ 0 → Room area at (coefficient_bytes p i (v ∷ [])) → Wrote area area at (coefficient_bytes p i (v ∷ [])) at
-wrote_zero area at p i v e r =
-    wrote_as (sym (ap (λ a. coefficient_bytes p i (a ∷ [])) e ∙ coefficient_bytes_zero p i)) (wrote_none area at (omega (arith, r.fits)))
+pub puts_zero : (c : Cursor) (p i v : ℕ) → v ≡ 0 → Fits c (coefficient_bytes p i (v ∷ [])) → Puts c c (coefficient_bytes p i (v ∷ []))
+puts_zero c p i v e r = puts_as (sym (ap (λ a. coefficient_bytes p i (a ∷ [])) e ∙ coefficient_bytes_zero p i)) (puts_none c (omega (arith, r.room.fits)))
 
 -- any other is, under the code k
 pub command_is : (p i v : ℕ) {k : ℕ} → v ≢ 0 → k ≡ coefficient_code p → k ∷ i ∷ value_bytes p v ≡ coefficient_bytes p i (v ∷ [])

@@ -1,6 +1,6 @@
 -- The answer reader: what `read_call` is where the candidate's answer is the bytes and where it is not.
 -- Proves these from the theorems on the reader. Assumes nothing.
-use mathlib.Core.Path.{◌≡◌, sym, ◌∙◌, ap}
+use mathlib.Core.Path.{◌≡◌, ◌∙◌, ap}
 use mathlib.Core.List.{List, ◌++◌}
 use Rattle.std.specs.Prelude.{Some, None}
 use Prim.Native.Nat.{ℕ, ◌≤◌, ◌<◌}

@@ -29,16 +29,41 @@ fn print_division<W: Write>(out: &mut W, a: Division) -> io::Result<()> {
     writeln!(out)
 }
 
-// 0 to 2: zero, one and x of the first record's prime; then sum, difference, product; the rest divides.
-fn print_result<W: Write>(out: &mut W, operation: u8, a: Poly, b: Poly) -> io::Result<()> {
+// What a case asks for: a polynomial of the first record's prime, or the two records worked together.
+enum Operation {
+    Zero,
+    One,
+    X,
+    Sum,
+    Difference,
+    Product,
+    Division,
+}
+
+// The number that a case has for it; all from 6 on divide.
+impl From<u8> for Operation {
+    fn from(number: u8) -> Operation {
+        match number {
+            0 => Operation::Zero,
+            1 => Operation::One,
+            2 => Operation::X,
+            3 => Operation::Sum,
+            4 => Operation::Difference,
+            5 => Operation::Product,
+            _ => Operation::Division,
+        }
+    }
+}
+
+fn print_result<W: Write>(out: &mut W, operation: Operation, a: Poly, b: Poly) -> io::Result<()> {
     match operation {
-        0 => print_answer(out, Poly::zero(a.prime)),
-        1 => print_answer(out, Poly::one(a.prime)),
-        2 => print_answer(out, Poly::x(a.prime)),
-        3 => print_answer(out, polynomial::add(a, b)),
-        4 => print_answer(out, polynomial::sub(a, b)),
-        5 => print_answer(out, polynomial::mul(a, b)),
-        _ => print_division(out, polynomial::divide(a, b)),
+        Operation::Zero => print_answer(out, Poly::zero(a.prime)),
+        Operation::One => print_answer(out, Poly::one(a.prime)),
+        Operation::X => print_answer(out, Poly::x(a.prime)),
+        Operation::Sum => print_answer(out, polynomial::add(a, b)),
+        Operation::Difference => print_answer(out, polynomial::sub(a, b)),
+        Operation::Product => print_answer(out, polynomial::mul(a, b)),
+        Operation::Division => print_division(out, polynomial::divide(a, b)),
     }
 }
 
@@ -51,7 +76,7 @@ fn work<R: Read, W: Write>(input: &mut R, out: &mut W) -> io::Result<bool> {
     let Some(b) = head(input) else {
         return Ok(false);
     };
-    print_result(out, operation[0], record(&a), record(&b))?;
+    print_result(out, operation[0].into(), record(&a), record(&b))?;
     Ok(true)
 }
 

@@ -4,8 +4,6 @@ use mathlib.Core.Path.{sym, ◌∙◌}
 use mathlib.Core.Bool.{false≢true}
 use native.Mathlib.Omega.{arith}
 use borrow.Author.Tests.{ltb-true, ltb-false}
-use Rattle.algebra.specs.Numbers.{square_large}
-use Rattle.algebra.specs.TakenPrimes.{is_prime_lem}
 use Rattle.answer_reader.proofs.CandidateFound.{no_answer, first_there, prime_there, prime_taken, product_there, degree_positive, run_allowed, candidate_found}
 use Rattle.answer_reader.proofs.find_candidate.Goals as goal
 use Rattle.answer_reader.proofs.find_candidate.Goals.{then-not-positive-via-then-not-positive, then-not-positive-via-else-not-positive+then-not-run_allowed}
@@ -16,30 +14,28 @@ returns-in_err-at c = rw c.from_residual.ensures (no_answer (λ s g e. first_the
 pub returns-then-answer-at : goal.returns-then-answer-at
 returns-then-answer-at c = no_answer (λ s g e. omega (arith, prime_there s g e c.in_ok-at.ensures))
 
-pub returns-then-not-taken : goal.returns-then-not-taken
-returns-then-not-taken c =
-    no_answer (λ s g e. false≢true (sym c.if-not-taken.true ∙ c.taken.ensures ∙ prime_taken s g e c.in_ok-at.ensures))
+pub returns-in_err-prime : goal.returns-in_err-prime
+returns-in_err-prime c =
+    rw c.from_residual-in_err-prime.ensures
+    (no_answer (λ s g e. false≢true (sym c.in_err-prime.ensures ∙ prime_taken s g e c.in_ok-at.ensures)))
 
-pub multiply-requires : goal.multiply-requires
-multiply-requires c = square_large _ (is_prime_lem (sym c.taken.ensures ∙ c.if-not-taken.false)).large
-
-pub returns-in_err-degree : goal.returns-in_err-degree
-returns-in_err-degree c =
-    rw c.from_residual-in_err-degree.ensures (no_answer (λ s g e. product_there s g e c.in_ok-at.ensures c.in_err-degree.ensures))
+pub returns-in_err-f : goal.returns-in_err-f
+returns-in_err-f c =
+    rw c.from_residual-in_err-f.ensures (no_answer (λ s g e. product_there s g e c.in_ok-at.ensures c.in_ok-prime.ensures c.in_err-f.ensures))
 
 pub returns-then-not-positive : goal.returns-then-not-positive
 returns-then-not-positive c =
     no_answer (λ s g e.
     elim c.then-not-positive.branch [
       | then-not-positive-via-then-not-positive w ↦
-          absurd (omega (arith, degree_positive s g e c.in_ok-at.ensures c.in_ok-degree.ensures, ltb-false, w.if-not-positive.true))
+          absurd (omega (arith, degree_positive s g e c.in_ok-at.ensures c.in_ok-prime.ensures c.in_ok-f.ensures, ltb-false, w.if-not-positive.true))
       | then-not-positive-via-else-not-positive+then-not-run_allowed w ↦
           w.run_allowed.ensures.no w.if-not-run_allowed.true
-          (run_allowed s g e c.in_ok-at.ensures c.in_ok-degree.ensures c.shows_run-run.ensures)
+          (run_allowed s g e c.in_ok-at.ensures c.in_ok-prime.ensures c.in_ok-f.ensures c.shows_run-run.ensures)
     ])
 
 pub returns : goal.returns
 returns c =
-    candidate_found c.in_ok-at.ensures c.in_ok-degree.ensures (sym c.taken.ensures ∙ c.if-not-taken.false)
+    candidate_found c.in_ok-at.ensures c.in_ok-prime.ensures c.in_ok-prime.prime.taken c.in_ok-f.ensures
     (omega (arith, ltb-true, c.if-not-positive.false)) c.shows_run-run.ensures
     (c.run_allowed.ensures.yes c.if-not-run_allowed.false)

@@ -13,35 +13,35 @@ use Rattle.answer_writer.proofs.PartsWriting.{
 use Rattle.answer_writer.proofs.write_parts.Goals as goal
 
 pub loop-x-init : goal.loop-x-init
-loop-x-init g c = let (F, good, room) = c.requires in writing_none _ F good room c.as_slice-powers.ensures.value
+loop-x-init g c = let (F, room) = c.requires in writing_none _ F c.args.s.good room c.as_slice-powers.ensures.value
 
 pub next_part-next-requires : goal.next_part-next-requires
 next_part-next-requires g c =
-    let (F, good, room) = c.requires in
-    writing_asks _ F good room c.as_slice-powers.ensures.value c.loop-x.invariant c.loop-x-test.true
+    let (F, room) = c.requires in
+    writing_asks _ F c.args.s.good room c.as_slice-powers.ensures.value c.loop-x.invariant c.loop-x-test.true
 
-pub write_part-after-requires : goal.write_part-after-requires
-write_part-after-requires g c =
-    let (F, good, room) = c.requires in (
-      writing_fits _ F good room c.as_slice-powers.ensures.value c.loop-x.invariant c.loop-x-test.true c.next_part-next.ensures,
-      writing_room _ F good room c.as_slice-powers.ensures.value c.loop-x.invariant c.loop-x-test.true c.next_part-next.ensures,
+pub write_part-requires : goal.write_part-requires
+write_part-requires g c =
+    let (F, room) = c.requires in (
+      writing_fits _ F c.args.s.good room c.as_slice-powers.ensures.value c.loop-x.invariant c.loop-x-test.true c.next_part-next.ensures,
+      writing_room _ F c.args.s.good room c.as_slice-powers.ensures.value c.loop-x.invariant c.loop-x-test.true c.next_part-next.ensures,
     )
 
 pub with_part-totals-requires : goal.with_part-totals-requires
 with_part-totals-requires g c =
-    let (F, good, room) = c.requires in (
-      (writing_fits _ F good room c.as_slice-powers.ensures.value c.loop-x.invariant c.loop-x-test.true c.next_part-next.ensures).base,
-      writing_repeated _ F good room c.as_slice-powers.ensures.value c.loop-x.invariant c.loop-x-test.true c.next_part-next.ensures,
-      writing_low _ F good room c.as_slice-powers.ensures.value c.loop-x.invariant c.loop-x-test.true c.next_part-next.ensures,
+    let (F, room) = c.requires in (
+      (writing_fits _ F c.args.s.good room c.as_slice-powers.ensures.value c.loop-x.invariant c.loop-x-test.true c.next_part-next.ensures).base,
+      writing_repeated _ F c.args.s.good room c.as_slice-powers.ensures.value c.loop-x.invariant c.loop-x-test.true c.next_part-next.ensures,
+      writing_low _ F c.args.s.good room c.as_slice-powers.ensures.value c.loop-x.invariant c.loop-x-test.true c.next_part-next.ensures,
     )
 
 pub loop-x-preserved : goal.loop-x-preserved
 loop-x-preserved g c =
-    let (F, good, room) = c.requires in
-    writing_more _ F good room c.as_slice-powers.ensures.value c.loop-x.invariant c.loop-x-test.true c.next_part-next.ensures
-    c.write_part-after.ensures c.with_part-totals.ensures
+    let (F, room) = c.requires in
+    writing_more _ F c.args.s.good room c.as_slice-powers.ensures.value c.loop-x.invariant c.loop-x-test.true c.next_part-next.ensures
+    c.write_part.ensures c.with_part-totals.ensures
 
 pub returns : goal.returns
 returns g c =
-    let (F, good, room) = c.requires in
-    writing_done _ F good room c.as_slice-powers.ensures.value c.loop-x.invariant c.loop-x-test.false
+    let (F, room) = c.requires in
+    writing_done _ F c.args.s.good room c.as_slice-powers.ensures.value c.loop-x.invariant c.loop-x-test.false

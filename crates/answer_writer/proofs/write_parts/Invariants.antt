@@ -5,5 +5,5 @@ use Rattle.answer_writer.proofs.write_parts.Given as goal
 
 abbrev pub invariant-loop-x : goal.invariant-loop-x
 invariant-loop-x g l =
-    Writing (g.W.PartWriter.part_written l.writer) l.fn.s.prime l.fn.s.coefs l.fn.s.degree l.fn.found l.fn.out l.at l.out l.after l.x-index l.totals
-    l.rest l.degree
+    Writing (g.W.PartWriter.part_written l.writer) l.fn.s.sheet.prime l.fn.s.sheet.coefs l.fn.s.sheet.degree l.fn.found l.fn.out l.out l.x-index l.totals l.rest
+    l.degree

@@ -1,25 +1,17 @@
 -- `base_order::before` meets its contract.
 -- Assumes nothing.
-use native.Mathlib.Omega.{arith}
-use borrow.Author.Rules.{rules}
-use Rattle.base_order.proofs.ArrayOrder.{agree_down, before_by_degree, before_by_coefficient, before_itself}
+use Rattle.std.specs.Ordering.{nat_cmp}
+use Rattle.std.proofs.Common.{◌≡◌, refl, suc, length-take, rules, arith}
+use Rattle.std.proofs.lemmas.Iterator.Adapters.{YieldsList-from_rev_slice}
+use Rattle.std.proofs.lemmas.Iterator.Search.{cmp_from_yields_List}
+use Rattle.arrays.specs.Listed.{listed}
+use Rattle.base_order.proofs.ArrayOrder.{before_decided}
 use Rattle.base_order.proofs.before.Goals as goal
 
-pub returns-then-d-e : goal.returns-then-d-e
-returns-then-d-e c = before_by_degree c.args.a c.args.b _ _ (search rules) (search rules) c.requires.0 c.requires.1 c.if-d-e.true
-
-pub loop-k-init : goal.loop-k-init
-loop-k-init c = λ l u v. absurd (omega arith)
-
-pub returns-then-a-k : goal.returns-then-a-k
-returns-then-a-k c =
-    before_by_coefficient c.args.a c.args.b _ _ _ (search rules) (search rules) c.requires.0 c.if-d-e.false (search rules)
-    c.loop-k.invariant c.if-a-k.true
-
-pub loop-k-preserved : goal.loop-k-preserved
-loop-k-preserved c = λ l u v. agree_down c.args.a c.args.b c.args.d c.loop-k.k c.loop-k.invariant c.if-a-k.false l (omega arith) v
-
-pub returns-else-a-k : goal.returns-else-a-k
-returns-else-a-k c =
-    let agree = agree_down c.args.a c.args.b c.args.d c.loop-k.k c.loop-k.invariant c.if-a-k.false in
-    before_itself c.args.a c.args.b _ _ (search rules) (search rules) c.requires.0 c.if-d-e.false (λ l u v. agree l (omega arith) v)
+pub returns : goal.returns
+returns c =
+    let coefs =
+    cmp_from_yields_List (λ x y. y ≡ x) _ nat_cmp _ c.cmp-by_coefs.ensures.ran (YieldsList-from_rev_slice (listed c.args.d c.args.a) (search rules))
+    (λ it e. YieldsList-from_rev_slice (listed c.args.e c.args.b) (search rules)) (λ x y. refl) in
+    rw (c.is_lt.ensures, c.then.ensures, c.cmp-by_degree.ensures, coefs, c.terms-f.ensures, c.terms-g.ensures)
+    (before_decided (listed c.args.d c.args.a) (listed c.args.e c.args.b) (omega (arith, length-take (suc c.args.d) c.args.a)) (omega (arith, length-take (suc c.args.e) c.args.b)))

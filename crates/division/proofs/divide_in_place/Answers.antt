@@ -18,25 +18,25 @@ pub new-modulus-requires : goal.new-modulus-requires
 new-modulus-requires c = omega (arith, c.requires.0.low 0)
 
 pub loop-top-init : goal.loop-top-init
-loop-top-init c = rw c.requires.1 (division_none _ _ _ c.requires.3 c.requires.0 c.requires.5)
+loop-top-init c = rw c.requires.1 (division_none _ _ _ c.requires.2 c.requires.0 c.requires.3)
 
 pub add_by-requires : goal.add_by-requires
 add_by-requires c =
     let left = c.loop-top.invariant in
     let room = c.loop-top-test.true in
     rw c.new-modulus.ensures
-    (lent_part _ _ _ left.remainder c.requires.2 (below_up (omega arith) c.requires.6.below) (omega (arith, room, left.limit)) (search rules))
+    (lent_part _ _ _ left.remainder c.args.b.now.monic.reduced (below_up (omega arith) c.args.b.now.monic.monic.below) (omega (arith, room, left.limit)) (search rules))
 
 pub loop-top-preserved-then-c-ne0 : goal.loop-top-preserved-then-c-ne0
 loop-top-preserved-then-c-ne0 c =
     let left = c.loop-top.invariant in
     let low = left.remainder.low (c.loop-top.top - 1) in
     let room = c.loop-top-test.true in
-    let added = lent_added _ _ _ _ _ left.remainder c.requires.6.below (omega (arith, room, left.limit)) (rw c.new-modulus.ensures at c.add_by.ensures) in
-    division_more _ _ _ (monic_by_one c.requires.6) _ _ _ _ _ _ (search rules) (search rules) (once low) low left added
+    let added = lent_added _ _ _ _ _ left.remainder c.args.b.now.monic.monic.below (omega (arith, room, left.limit)) (rw c.new-modulus.ensures at c.add_by.ensures) in
+    division_more _ _ _ (monic_by_one c.args.b.now.monic.monic) _ _ _ _ _ _ (search rules) (search rules) (once low) low left added
 
 pub loop-top-preserved : goal.loop-top-preserved
 loop-top-preserved c =
     let left = c.loop-top.invariant in
     let low = left.remainder.low (c.loop-top.top - 1) in
-    division_passed _ _ _ (monic_by_one c.requires.6) _ _ _ _ _ _ (search rules) (search rules) (once low) low (search rules) left
+    division_passed _ _ _ (monic_by_one c.args.b.now.monic.monic) _ _ _ _ _ _ (search rules) (search rules) (once low) low (search rules) left

@@ -15,18 +15,18 @@ decreases-term l = (length l.s.now - l.at) * 3
 
 abbrev pub invariant-expression-loop-sign : goal.invariant-expression-loop-sign
 invariant-expression-loop-sign l = record {
-  stands : SummandsStand l.s l.p l.fn.at l.all.end l.all.value;
+  stands : SummandsStand l.s l.p.value l.fn.at l.all.end l.all.value;
   blanks : Skipped l.s l.all.end l.place;
 }
 
 abbrev pub decreases-expression-loop-sign : goal.decreases-expression-loop-sign
 decreases-expression-loop-sign l = length l.s - l.all.end
 
-abbrev pub invariant-product-loop-from : goal.invariant-product-loop-from
-invariant-product-loop-from l = record {
-  stands : FactorsStand l.s l.p l.fn.at l.all.end l.all.value;
+abbrev pub invariant-product-loop-p : goal.invariant-product-loop-p
+invariant-product-loop-p l = record {
+  stands : FactorsStand l.s l.p.value l.fn.at l.all.end l.all.value;
   blanks : Skipped l.s l.all.end l.sign;
 }
 
-abbrev pub decreases-product-loop-from : goal.decreases-product-loop-from
-decreases-product-loop-from l = length l.s - l.all.end
+abbrev pub decreases-product-loop-p : goal.decreases-product-loop-p
+decreases-product-loop-p l = length l.s - l.all.end

@@ -11,7 +11,7 @@ use Rattle.line_reader.proofs.raise.Goals as goal
 pub returns-in_err-exponent : goal.returns-in_err-exponent
 returns-in_err-exponent c =
     let none = missing_is c.read_digits.result c.in_err-exponent.ensures.value in
-    passed_on (Raises c.args.s.now c.args.base c.args.p) c.from_residual.result c.from_residual.ensures.1
+    passed_on (Raises c.args.s.now c.args.base c.args.p.value) c.from_residual.result c.from_residual.ensures.1
     (raises_halts c.skip-sign.ensures (sign_at 94 (omega arith) c.byte.ensures (omega arith)) c.skip-from.ensures (none.1 ∙ c.at.ensures)
     (rw none.0 at c.read_digits.ensures))
 

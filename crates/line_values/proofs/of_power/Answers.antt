@@ -10,12 +10,12 @@ use Rattle.line_values.proofs.of_power.Goals as goal
 
 pub returns-in_err-f : goal.returns-in_err-f
 returns-in_err-f c =
-    passed_on (OfPower c.args.p c.args.a c.args.e) c.from_residual.result c.from_residual.ensures.1
+    passed_on (OfPower c.args.p.value c.args.a c.args.e) c.from_residual.result c.from_residual.ensures.1
     (rw c.in_err-f.was (power_without (omega arith)))
 
 pub power-requires : goal.power-requires
 power-requires c =
-    let f = rw c.in_ok-f.was at c.requires.1 in
+    let f = rw c.in_ok-f.was at c.requires in
     let size = c.size.ensures in
     let degree = c.saturating_sub-d.ensures in
-    (c.requires.0, f, omega (arith, degree, size.limit), below_up (omega (arith, degree)) (below_size _ size), omega arith)
+    (f, omega (arith, degree, size.limit), below_up (omega (arith, degree)) (below_size _ size), omega arith)

@@ -7,5 +7,5 @@ use Rattle.line_values.proofs.of_sum.Goals as goal
 
 pub returns-in_err-f : goal.returns-in_err-f
 returns-in_err-f c =
-    passed_on (OfSum c.args.p c.args.sign c.args.a c.args.b) c.from_residual.result c.from_residual.ensures.1
+    passed_on (OfSum c.args.p.value c.args.sign c.args.a c.args.b) c.from_residual.result c.from_residual.ensures.1
     (sum_without c.args.sign c.in_err-f.ensures)

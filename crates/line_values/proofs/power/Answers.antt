@@ -6,19 +6,19 @@ use Rattle.line_values.proofs.Raising.{raised_none, raised_more, raised_below, r
 use Rattle.line_values.proofs.power.Goals as goal
 
 pub loop-i-init : goal.loop-i-init
-loop-i-init c = raised_none c.args.f (square_above_one _ c.requires.0) c.monomial-r.ensures
+loop-i-init c = raised_none c.args.f (square_above_one _ c.args.p.taken) c.monomial-r.ensures
 
 pub product-next-requires : goal.product-next-requires
 product-next-requires c =
     let pre = c.requires in
     let inv = c.loop-i.invariant in
     rw c.square-n.ensures (
-      pre.1,
+      pre.0,
       inv.reduced,
-      omega (arith, pre.2),
-      omega (arith, raised_fits c.loop-i.i c.args.d c.loop-i-test.true pre.4),
-      rw (add-one c.args.d) pre.3,
-      raised_below c.args.f c.loop-i.i inv pre.3,
+      omega (arith, pre.1),
+      omega (arith, raised_fits c.loop-i.i c.args.d c.loop-i-test.true pre.3),
+      rw (add-one c.args.d) pre.2,
+      raised_below c.args.f c.loop-i.i inv pre.2,
     )
 
 pub loop-i-preserved : goal.loop-i-preserved

@@ -7,4 +7,4 @@ use Rattle.arrays.specs.Represents.{Represents}
 use Rattle.line_values.proofs.power.Given as goal
 
 abbrev pub invariant-loop-i : goal.invariant-loop-i
-invariant-loop-i l = Represents (l.p ²) l.r (pow (𝓩[x]/ (l.p ²)) (poly (l.p ²) l.f) l.i)
+invariant-loop-i l = Represents (l.fn.p.value ²) l.r (pow (𝓩[x]/ (l.fn.p.value ²)) (poly (l.fn.p.value ²) l.f) l.i)

@@ -1,9 +1,9 @@
 -- `modp_dependency::least_dependency` meets its contract.
 -- Assumes nothing.
-use Rattle.std.proofs.Common.{◌-◌, arith, rules, ⊎_elim}
+use Rattle.std.proofs.Common.{refl, ◌-◌, arith, rules, ⊎_elim}
 use Rattle.algebra.specs.Degree.{below_up}
 use Rattle.arrays.specs.SameEntries.{zero_above}
-use Rattle.modp_dependency.specs.Dependency.{searching_none, image_reducible, image_reduced, free_slot, searching_found, searching_more}
+use Rattle.modp_dependency.specs.Dependency.{searching_none, image_reducible, image_reduced, free_slot, searching_found, found_monic, searching_more}
 use Rattle.modp_dependency.specs.Storing.{row_stored}
 use Rattle.modp_dependency.proofs.least_dependency.Goals as goal
 
@@ -16,43 +16,48 @@ size_below-size-requires c =
     let reduced = h.4.reduced c.loop-i.i c.loop-i-test.true in
     (h.3, omega (arith, reduced.len), zero_above reduced (h.4.small c.loop-i.i c.loop-i-test.true))
 
-pub reduce-k-requires : goal.reduce-k-requires
-reduce-k-requires c =
+pub reduce-requires : goal.reduce-requires
+reduce-requires c =
     let h = c.requires in
     image_reducible h.0 h.4 h.2 c.loop-i-test.true c.loop-i.invariant c.monomial-preimage.ensures c.size_below-size.ensures
 
-pub returns-then-k-eq0 : goal.returns-then-k-eq0
-returns-then-k-eq0 c =
+pub invariant_of-found : goal.invariant_of-found
+invariant_of-found c =
     let h = c.requires in
-    let left = image_reduced h.0 h.4 h.2 c.loop-i-test.true c.loop-i.invariant c.monomial-preimage.ensures c.size_below-size.ensures c.reduce-k.ensures in
-    searching_found h.0 c.loop-i-test.true c.loop-i.invariant left (omega arith)
+    let left = image_reduced h.0 h.4 h.2 c.loop-i-test.true c.loop-i.invariant c.monomial-preimage.ensures c.size_below-size.ensures c.reduce.ensures in
+    record { monic = found_monic h.0 c.loop-i-test.true c.loop-i.invariant left (omega arith) (omega (arith, h.2, c.loop-i-test.true)) }
 
-pub offset_bounds-rows-k : goal.offset_bounds-rows-k
-offset_bounds-rows-k c =
+pub returns-then-held-eq0 : goal.returns-then-held-eq0
+returns-then-held-eq0 c =
     let h = c.requires in
-    let left = image_reduced h.0 h.4 h.2 c.loop-i-test.true c.loop-i.invariant c.monomial-preimage.ensures c.size_below-size.ensures c.reduce-k.ensures in
+    let left = image_reduced h.0 h.4 h.2 c.loop-i-test.true c.loop-i.invariant c.monomial-preimage.ensures c.size_below-size.ensures c.reduce.ensures in
+    (searching_found h.0 c.loop-i-test.true c.loop-i.invariant left (omega arith), refl)
+
+pub offset_bounds-rows-held : goal.offset_bounds-rows-held
+offset_bounds-rows-held c =
+    let h = c.requires in
+    let left = image_reduced h.0 h.4 h.2 c.loop-i-test.true c.loop-i.invariant c.monomial-preimage.ensures c.size_below-size.ensures c.reduce.ensures in
     search (rules, left.size.limit)
 
-pub bounds-rows-k : goal.bounds-rows-k
-bounds-rows-k c =
+pub bounds-rows-held : goal.bounds-rows-held
+bounds-rows-held c =
     let h = c.requires in
-    let left = image_reduced h.0 h.4 h.2 c.loop-i-test.true c.loop-i.invariant c.monomial-preimage.ensures c.size_below-size.ensures c.reduce-k.ensures in
+    let left = image_reduced h.0 h.4 h.2 c.loop-i-test.true c.loop-i.invariant c.monomial-preimage.ensures c.size_below-size.ensures c.reduce.ensures in
     omega (arith, left.size.limit)
 
 pub store-requires : goal.store-requires
 store-requires c =
     let h = c.requires in
-    let left = image_reduced h.0 h.4 h.2 c.loop-i-test.true c.loop-i.invariant c.monomial-preimage.ensures c.size_below-size.ensures c.reduce-k.ensures in
+    let left = image_reduced h.0 h.4 h.2 c.loop-i-test.true c.loop-i.invariant c.monomial-preimage.ensures c.size_below-size.ensures c.reduce.ensures in
     let slot =
-    free_slot h.0 (c.reduce-k.result - 1) c.loop-i.invariant (omega (arith, left.size.limit))
-    (⊎_elim (λ e. absurd (omega (arith, e))) (λ free. free) c.reduce-k.ensures.stops) in (
+    free_slot h.0 (c.reduce.new.self.size - 1) c.loop-i.invariant (omega (arith, left.size.limit))
+    (⊎_elim (λ e. absurd (omega (arith, e))) (λ free. free) c.reduce.ensures.stops) in (
       h.0,
       omega arith,
       omega (arith, h.2),
       slot.0,
       slot.1,
       left.image,
-      left.size,
       left.preimage,
       below_up (omega arith) left.reducing.monic.below,
     )
@@ -60,7 +65,7 @@ store-requires c =
 pub loop-i-preserved : goal.loop-i-preserved
 loop-i-preserved c =
     let h = c.requires in
-    let left = image_reduced h.0 h.4 h.2 c.loop-i-test.true c.loop-i.invariant c.monomial-preimage.ensures c.size_below-size.ensures c.reduce-k.ensures in
+    let left = image_reduced h.0 h.4 h.2 c.loop-i-test.true c.loop-i.invariant c.monomial-preimage.ensures c.size_below-size.ensures c.reduce.ensures in
     searching_more h.0 c.loop-i-test.true c.loop-i.invariant left (omega arith)
-    (⊎_elim (λ e. absurd (omega (arith, e))) (λ free. free) c.reduce-k.ensures.stops)
+    (⊎_elim (λ e. absurd (omega (arith, e))) (λ free. free) c.reduce.ensures.stops)
     (row_stored _ (omega (arith, c.loop-i.invariant.slots, left.size.limit)) c.store.ensures)

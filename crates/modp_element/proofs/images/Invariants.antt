@@ -7,4 +7,4 @@ use Rattle.modp_element.specs.Images.{PowerImages}
 use Rattle.modp_element.proofs.images.Given as goal
 
 abbrev pub invariant-loop-i : goal.invariant-loop-i
-invariant-loop-i l = PowerImages l.p l.q l.d l.i l.r × Remainder l.p l.q l.d l.power (x^ l.p ^ᴿ l.i)
+invariant-loop-i l = PowerImages l.q.n l.q.coefs l.q.degree l.i l.r × Remainder l.q.n l.q.coefs l.q.degree l.power (x^ l.q.n ^ᴿ l.i)

@@ -5,7 +5,7 @@ use Rattle.modp_euclid.proofs.gcd.Given as goal
 abbrev pub invariant-loop-n : goal.invariant-loop-n
 invariant-loop-n l =
     let w : Rows = record { former = record { remainder = l.x; cofactor = l.u }; terms = l.m; latter = record { remainder = l.y; cofactor = l.v }; size = l.n } in
-    Combined l.p l.fn.a l.fn.b w × Formed l.p l.d w
+    Combined l.p l.fn.a l.fn.b.coefs w × Formed l.p l.d w
 
 abbrev pub decreases-loop-n : goal.decreases-loop-n
 decreases-loop-n l = l.n

@@ -1,6 +1,5 @@
 -- `part_lift::correction` meets its contract.
 -- Assumes nothing.
-use Rattle.std.proofs.Common.{arith}
 use Rattle.algebra.specs.TakenPrimes.{is_prime_lem}
 use Rattle.quotients.specs.Remainder.{remainder_divided}
 use Rattle.part_lift.specs.Inverses.{inverse_is}
@@ -11,10 +10,10 @@ pub gcd-g-requires : goal.gcd-g-requires
 gcd-g-requires c =
     let C = c.requires.0 in
     let D = c.divide-d.ensures in
-    (is_prime_lem C.prime, C.positive, omega (arith, C.fits), D.remainder, C.second, D.small, C.monic_second)
+    (is_prime_lem C.prime, C.positive, D.remainder, D.small)
 
 pub returns : goal.returns
 returns c =
     let (C, h, small) = c.requires in
-    let (g, u) = c.gcd-g.ensures in
+    let (g, u, n) = c.gcd-g.ensures in
     correction_is C _ small (inverse_is C (remainder_divided _ c.divide-d.ensures) g u) c.product_modulo-t.ensures c.cofactor-y.ensures

@@ -5,11 +5,11 @@ use Rattle.algebra.specs.Degree.{below_mul}
 use Rattle.part_lift.specs.Quotients.{quotient_divided}
 use Rattle.part_lift.proofs.product_quotient.Goals as goal
 
-pub divide-d-requires : goal.divide-d-requires
-divide-d-requires c =
-    let (fits, t, r, b, small_t, small_r, monic) = c.requires in
+pub divide-requires : goal.divide-requires
+divide-requires c =
+    let (fits, t, r, small_t, small_r) = c.requires in
     let w = c.product-w.ensures in
-    (w.reduced, b, omega (arith, fits), omega (arith, fits), rw w.is (below_mul small_t (rw (← add-one) small_r)), monic)
+    (w.reduced, omega (arith, fits), rw w.is (below_mul small_t (rw (← add-one) small_r)))
 
 pub returns : goal.returns
-returns c = quotient_divided c.product-w.ensures c.divide-d.ensures
+returns c = quotient_divided c.product-w.ensures c.divide.ensures

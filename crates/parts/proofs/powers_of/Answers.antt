@@ -8,8 +8,10 @@ use Rattle.parts.proofs.powers_of.Goals as goal
 pub modulo-bar-requires : goal.modulo-bar-requires
 modulo-bar-requires c = omega (arith, (is_prime_lem c.requires.prime).large)
 
-pub factors-requires : goal.factors-requires
-factors-requires c =
+pub invariant_of-factors : goal.invariant_of-factors
+invariant_of-factors c =
     let m = c.requires in
     let b = c.modulo-bar.ensures in
-    (m.prime, m.array.fits, b.reduced, rw b.is (bar_monic_lem _ (is_prime_lem m.prime).large _ m.array.monic))
+    record {
+      monic = record { fits = m.array.fits; reduced = b.reduced; monic = rw b.is (bar_monic_lem _ (is_prime_lem m.prime).large _ m.array.monic) };
+    }

@@ -8,16 +8,22 @@ use Rattle.polynomial.proofs.Accepted.{division_accepted}
 use Rattle.polynomial.proofs.DivisionResult.{monic_size, monic_array, division_refused, division_is}
 use Rattle.polynomial.proofs.divide.Goals as goal
 
-pub overflow_sub-t : goal.overflow_sub-t
-overflow_sub-t c = monic_size c.size-t.ensures (division_accepted _ _ (sym c.in-Ok.ensures)).1
+pub overflow_sub-divisor : goal.overflow_sub-divisor
+overflow_sub-divisor c = monic_size c.size-t.ensures (division_accepted _ _ (sym c.in-Ok.ensures)).1
+
+pub invariant_of-divisor : goal.invariant_of-divisor
+invariant_of-divisor c =
+    let e = division_accepted _ _ (sym c.in-Ok.ensures) in
+    let t = c.size-t.ensures in
+    record {
+      monic = rw c.square.ensures
+          record { fits = omega (arith, t.limit, monic_size t e.1); reduced = e.0.second; monic = monic_array _ t e.1 };
+    }
 
 pub divide-d-requires : goal.divide-d-requires
 divide-d-requires c =
-    let e = division_accepted _ _ (sym c.in-Ok.ensures) in
     let s = c.size-s.ensures in
-    let t = c.size-t.ensures in
-    rw c.square.ensures
-    (e.0.first, e.0.second, s.limit, omega (arith, t.limit, monic_size t e.1), below_size _ s, monic_array _ t e.1)
+    rw c.square.ensures ((division_accepted _ _ (sym c.in-Ok.ensures)).0.first, s.limit, below_size _ s)
 
 pub returns-in-Ok : goal.returns-in-Ok
 returns-in-Ok c =

@@ -7,4 +7,4 @@ use Rattle.quotients.specs.Remainder.{Remainder}
 use Rattle.quotients.proofs.product_modulo.Given as goal
 
 abbrev pub invariant-loop-i : goal.invariant-loop-i
-invariant-loop-i l = Remainder l.n l.q l.d l.r (poly l.n (drop l.i l.a) · poly l.n l.b)
+invariant-loop-i l = Remainder l.q.n l.q.coefs l.q.degree l.r (poly l.q.n (drop l.i l.a) · poly l.q.n l.b)

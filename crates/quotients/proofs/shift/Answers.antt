@@ -12,26 +12,26 @@ use Rattle.quotients.proofs.shift.Goals as goal
 
 pub move_up-requires : goal.move_up-requires
 move_up-requires c =
-    let l : c.args.d ≤ 32 = omega arith in
-    (omega (arith, c.requires.1.len), zero_above c.requires.1 (below_up l c.requires.3))
+    let l : c.args.q.now.degree ≤ 32 = omega (arith, c.args.q.now.monic.fits) in
+    (omega (arith, c.requires.0.len), zero_above c.requires.0 (below_up l c.requires.1))
 
 pub overflow_sub-c : goal.overflow_sub-c
-overflow_sub-c c = omega (arith, (moved_reduced c.requires.1 c.move_up.ensures).low c.args.d)
+overflow_sub-c c = omega (arith, (moved_reduced c.requires.0 c.move_up.ensures).low c.args.q.now.degree)
 
 pub add_in_place-requires : goal.add_in_place-requires
 add_in_place-requires c =
-    let pre = c.requires in
-    let moved = moved_reduced pre.1 c.move_up.ensures in (
+    let q = c.args.q.now.monic in
+    let moved = moved_reduced c.requires.0 c.move_up.ensures in (
       search rules,
-      omega (arith, pre.0, moved.len),
-      omega (arith, moved.len, pre.2.len),
+      omega (arith, q.fits, moved.len),
+      omega (arith, moved.len, q.reduced.len),
       moved.low,
-      pre.2.low,
-      zero_above pre.2 (rw add-one pre.4.below),
+      q.reduced.low,
+      zero_above q.reduced (rw add-one q.monic.below),
     )
 
 pub returns : goal.returns
 returns c =
     let pre = c.requires in
     let up = c.move_up.ensures in
-    shifted pre.1 up pre.3 pre.4 (multiple_added_to _ _ _ _ (moved_reduced pre.1 up) c.add_in_place.ensures)
+    shifted pre.0 up pre.1 c.args.q.now.monic.monic (multiple_added_to _ _ _ _ (moved_reduced pre.0 up) c.add_in_place.ensures)

@@ -7,4 +7,4 @@ use Rattle.quotients.specs.Remainder.{Remainder}
 use Rattle.quotients.proofs.times_power_of_x.Given as goal
 
 abbrev pub invariant-loop : goal.invariant-loop
-invariant-loop l = Remainder l.n l.q l.d l.r (x^ l.counter · poly l.n l.fn.a)
+invariant-loop l = Remainder l.q.n l.q.coefs l.q.degree l.r (x^ l.counter · poly l.q.n l.fn.a)

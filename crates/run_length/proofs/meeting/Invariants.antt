@@ -4,7 +4,4 @@ use Rattle.run_length.specs.Meetings.{NoneFrom}
 use Rattle.run_length.proofs.meeting.Given as goal
 
 abbrev pub invariant-loop-i : goal.invariant-loop-i
-invariant-loop-i l = NoneFrom l.n l.f l.g l.end
-
-abbrev pub decreases-loop-i : goal.decreases-loop-i
-decreases-loop-i l = l.end
+invariant-loop-i l = NoneFrom l.f.n l.f.coefs l.g l.i

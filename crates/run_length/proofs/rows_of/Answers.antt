@@ -6,7 +6,7 @@ use Rattle.run_length.proofs.RowTable.{rows_none, rows_more}
 use Rattle.run_length.proofs.rows_of.Goals as goal
 
 pub loop-i-init : goal.loop-i-init
-loop-i-init c = (rows_none, shifts_none _ c.requires.2 c.requires.3)
+loop-i-init c = (rows_none, shifts_none _ c.requires.1 c.requires.2)
 
 pub loop-i-preserved : goal.loop-i-preserved
 loop-i-preserved c =

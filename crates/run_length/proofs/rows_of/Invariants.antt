@@ -8,4 +8,4 @@ use Rattle.run_length.specs.Rows.{Rows}
 use Rattle.run_length.proofs.rows_of.Given as goal
 
 abbrev pub invariant-loop-i : goal.invariant-loop-i
-invariant-loop-i l = Rows l.n l.f l.d l.fn.y l.i l.rows × Remainder l.n l.f l.d l.t (x^ l.i · poly l.n l.fn.y)
+invariant-loop-i l = Rows l.f.n l.f.coefs l.f.degree l.fn.y l.i l.rows × Remainder l.f.n l.f.coefs l.f.degree l.t (x^ l.i · poly l.f.n l.fn.y)

@@ -7,19 +7,19 @@ use Rattle.run_length.proofs.RowTable.{rows_small}
 use Rattle.run_length.proofs.GreatSteps.{modulus, steps_more, run_met, run_too_long, run_none}
 use Rattle.run_length.proofs.run_length.Goals as goal
 
-pub overflow_mul-n : goal.overflow_mul-n
-overflow_mul-n c = omega (arith, square_small _ c.requires.0.prime)
+pub overflow_mul-q : goal.overflow_mul-q
+overflow_mul-q c = omega (arith, square_small _ c.requires.0.prime)
 
 pub small_steps-y-requires : goal.small_steps-y-requires
 small_steps-y-requires c =
     let given = c.requires.0 in
-    (modulus given, given.positive, given.array, search rules)
+    (modulus given, given.positive, search rules)
 
 pub meeting-requires : goal.meeting-requires
 meeting-requires c =
     let given = c.requires.0 in
     let great = c.loop-j.invariant.great in
-    (modulus given, given.positive, given.array, c.small_steps-y.ensures.0, great.reduced, great.small)
+    (modulus given, given.positive, c.small_steps-y.ensures.0, great.reduced, great.small)
 
 pub returns-then-k-le65535 : goal.returns-then-k-le65535
 returns-then-k-le65535 c =
@@ -31,9 +31,8 @@ returns-in-Some c =
 
 pub great_step-v-requires : goal.great_step-v-requires
 great_step-v-requires c =
-    let given = c.requires.0 in
     let great = c.loop-j.invariant.great in
-    (omega (arith, modulus given), given.array.fits, rows_small c.rows_of.ensures, great.reduced, great.small)
+    (rows_small c.rows_of.ensures, great.reduced, great.small)
 
 pub loop-j-preserved : goal.loop-j-preserved
 loop-j-preserved c =

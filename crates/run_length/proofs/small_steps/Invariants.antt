@@ -6,4 +6,4 @@ use Rattle.run_length.specs.Marks.{Marks}
 use Rattle.run_length.proofs.small_steps.Given as goal
 
 abbrev pub invariant-loop-i : goal.invariant-loop-i
-invariant-loop-i l = Marks l.n l.f l.d l.w l.marks l.i × Remainder l.n l.f l.d l.r (x^ l.i)
+invariant-loop-i l = Marks l.f.n l.f.coefs l.f.degree l.w l.marks l.i × Remainder l.f.n l.f.coefs l.f.degree l.r (x^ l.i)

@@ -10,7 +10,7 @@ use Rattle.sheet_steps.proofs.command_at.Goals as goal
 
 pub returns-in_err-command : goal.returns-in_err-command
 unfolding command_byte
-returns-in_err-command c = handed_on c.from_residual.ensures.1 (judged_ends refusal.NoCommand _ c.in_err-command.ensures)
+returns-in_err-command c = handed_on c.from_residual.ensures.1 (judged_ends _ _ c.in_err-command.ensures)
 
 pub returns-then-command-code : goal.returns-then-command-code
 unfolding command_byte
@@ -21,4 +21,4 @@ pub returns : goal.returns
 unfolding command_byte
 returns c =
     let w = c.in_ok-command.ensures in
-    judged_taken refusal.NoCommand (λ b. eqb b _) w w.inside.good (rw (eq-eqb _ _ c.if-command-code.false) tt)
+    judged_taken _ (λ b. eqb b _) w w.inside.good (rw (eq-eqb _ _ c.if-command-code.false) tt)

@@ -9,7 +9,7 @@ use Rattle.sheet_steps.specs.Steps.{handed_on, judged_taken, judged_wrong, judge
 use Rattle.sheet_steps.proofs.index_at.Goals as goal
 
 pub returns-in_err-operand : goal.returns-in_err-operand
-returns-in_err-operand c = handed_on c.from_residual.ensures.1 (judged_ends refusal.WrongIndex _ c.in_err-operand.ensures)
+returns-in_err-operand c = handed_on c.from_residual.ensures.1 (judged_ends _ _ c.in_err-operand.ensures)
 
 pub returns-then-degree-index : goal.returns-then-degree-index
 returns-then-degree-index c =
@@ -20,5 +20,5 @@ returns-then-degree-index c =
 pub returns : goal.returns
 returns c =
     let a = c.args in
-    judged_taken refusal.WrongIndex (index_taken a.degree a.least) c.in_ok-operand.ensures (omega arith)
+    judged_taken _ (index_taken a.degree a.least) c.in_ok-operand.ensures (omega arith)
     (index_passes a.degree a.least _ (omega arith) (omega arith))

@@ -8,7 +8,7 @@ use Rattle.sheet_steps.specs.Steps.{flag_none, flag_there, flag_wrong}
 use Rattle.sheet_steps.proofs.run_at.Goals as goal
 
 pub returns-then-not-comes : goal.returns-then-not-comes
-returns-then-not-comes c = flag_none _ refusal.NoRun _ c.comes.ensures c.requires.0 c.if-not-comes.true
+returns-then-not-comes c = flag_none _ _ _ c.comes.ensures c.requires.0 c.if-not-comes.true
 
 pub returns-then-not-has_run : goal.returns-then-not-has_run
 returns-then-not-has_run c =
@@ -17,4 +17,4 @@ returns-then-not-has_run c =
 
 pub returns : goal.returns
 returns c =
-    flag_there _ refusal.NoRun _ c.comes.ensures c.if-not-comes.false (subst T (sym (sym c.has_run.ensures ∙ c.if-not-has_run.false)) tt)
+    flag_there _ _ _ c.comes.ensures c.if-not-comes.false (subst T (sym (sym c.has_run.ensures ∙ c.if-not-has_run.false)) tt)

@@ -10,7 +10,7 @@ use Rattle.sheet_steps.proofs.value_at.Goals as goal
 use Rattle.sheet_steps.proofs.value_at.Goals.{then-value-eq0-via-then-value-eq0, then-value-eq0-via-else-value-eq0+then-square-value}
 
 pub returns-in_err-value : goal.returns-in_err-value
-returns-in_err-value c = handed_on c.from_residual.ensures.1 (judged_ends refusal.WrongValue _ c.in_err-value.ensures)
+returns-in_err-value c = handed_on c.from_residual.ensures.1 (judged_ends _ _ c.in_err-value.ensures)
 
 pub returns-then-value-eq0 : goal.returns-then-value-eq0
 returns-then-value-eq0 c =
@@ -26,4 +26,4 @@ returns-then-value-eq0 c =
 pub returns : goal.returns
 returns c =
     let p = c.args.prime in
-    judged_taken refusal.WrongValue (value_taken p) c.in_ok-value.ensures (omega arith) (value_passes p _ (omega arith) (omega arith))
+    judged_taken _ (value_taken p) c.in_ok-value.ensures (omega arith) (value_passes p _ (omega arith) (omega arith))

@@ -3,14 +3,14 @@
 use mathlib.Core.Path.{sym}
 use mathlib.Core.List.{[], ◌∷◌}
 use Rattle.layouts.specs.SheetLayout.{last_bytes_is}
-use Rattle.area.specs.Wrote.{wrote_more, wrote_as, room_as, room_first, room_byte}
+use Rattle.area.specs.Cursors.{puts_more, puts_as, fits_as, fits_first, fits_byte}
 use Rattle.sheet_writer.proofs.write_last.Goals as goal
 
-pub write_flag-end-requires : goal.write_flag-end-requires
-write_flag-end-requires c = room_first _ (0x0F ∷ []) (room_as (sym (last_bytes_is _)) c.requires)
+pub write_flag-requires : goal.write_flag-requires
+write_flag-requires c = fits_first _ (0x0F ∷ []) (fits_as (sym (last_bytes_is _)) c.requires)
 
 pub put-requires : goal.put-requires
-put-requires c = room_byte _ 0x0F (room_as (sym (last_bytes_is _)) c.requires) c.write_flag-end.ensures
+put-requires c = fits_byte _ 0x0F (fits_as (sym (last_bytes_is _)) c.requires) c.write_flag.ensures
 
 pub returns : goal.returns
-returns c = wrote_as (sym (last_bytes_is _)) (wrote_more c.write_flag-end.ensures c.put.ensures)
+returns c = puts_as (sym (last_bytes_is _)) (puts_more c.write_flag.ensures c.put.ensures)

@@ -10,7 +10,7 @@ use Rattle.specification.specs.Text.{head_text, total_text, run_text}
 use Rattle.layouts.specs.AnswerLayout.{sheet_parts}
 use Rattle.commands.specs.declared.Sheet.{Sheet}
 use Rattle.commands.specs.AsSheet.{as_sheet}
-use Rattle.area.specs.Wrote.{wrote_more, wrote_as, room_as, room_first, room_next}
+use Rattle.area.specs.Cursors.{puts_more, puts_as, fits_next, fits_as, fits_first}
 use Rattle.split_text.specs.TextArrays.{part_lines, lines_are}
 use Rattle.split_text.specs.TextSize.{sized_room, answer_sized}
 use Rattle.split_text.proofs.write_lines.Goals as goal
@@ -28,54 +28,52 @@ totals s = total_text (totals_of (sheet_parts (as_sheet s)))
 abbrev run : Sheet → List ℕ
 run s = run_text (as_sheet s)
 
-pub write_head-first-requires : goal.write_head-first-requires
-write_head-first-requires c =
-    let (F, good, long) = c.requires in
-    let s = c.args.s in
+pub write_head-requires : goal.write_head-requires
+write_head-requires c =
+    let (F, long) = c.requires in
+    let s = c.args.s.sheet in
     let whole = lines_are s (search rules) (omega (arith, F.left.monic.array.fits)) in
-    room_first (head s) (parts s)
-    (room_first (head s ++ parts s) (totals s)
-    (room_first (head s ++ parts s ++ totals s) (run s) (room_as whole (sized_room (answer_sized (as_sheet s) good) long))))
+    fits_first (head s) (parts s)
+    (fits_first (head s ++ parts s) (totals s)
+    (fits_first (head s ++ parts s ++ totals s) (run s) (fits_as whole (record { room = sized_room (answer_sized (as_sheet s) c.args.s.good) long }))))
 
-pub write_parts-w-requires : goal.write_parts-w-requires
-write_parts-w-requires c =
-    let (F, good, long) = c.requires in
-    let s = c.args.s in
+pub write_parts-totals-requires : goal.write_parts-totals-requires
+write_parts-totals-requires c =
+    let (F, long) = c.requires in
+    let s = c.args.s.sheet in
     let whole = lines_are s (search rules) (omega (arith, F.left.monic.array.fits)) in (
       F,
-      good,
-      room_next (head s) (parts s)
-          (room_first (head s ++ parts s) (totals s)
-          (room_first (head s ++ parts s ++ totals s) (run s) (room_as whole (sized_room (answer_sized (as_sheet s) good) long))))
-          c.write_head-first.ensures,
+      fits_next (head s) (parts s)
+          (fits_first (head s ++ parts s) (totals s)
+          (fits_first (head s ++ parts s ++ totals s) (run s) (fits_as whole (record { room = sized_room (answer_sized (as_sheet s) c.args.s.good) long }))))
+          c.write_head.ensures,
     )
 
-pub write_totals-last-requires : goal.write_totals-last-requires
-write_totals-last-requires c =
-    let (F, good, long) = c.requires in
-    let s = c.args.s in
+pub write_totals-requires : goal.write_totals-requires
+write_totals-requires c =
+    let (F, long) = c.requires in
+    let s = c.args.s.sheet in
     let whole = lines_are s (search rules) (omega (arith, F.left.monic.array.fits)) in
-    room_as (ap total_text c.write_parts-w.ensures.1)
-    (room_next (head s ++ parts s) (totals s)
-    (room_first (head s ++ parts s ++ totals s) (run s) (room_as whole (sized_room (answer_sized (as_sheet s) good) long)))
-    (wrote_more {bytes = head s} c.write_head-first.ensures c.write_parts-w.ensures.0))
+    fits_as (ap total_text c.write_parts-totals.ensures.1)
+    (fits_next (head s ++ parts s) (totals s)
+    (fits_first (head s ++ parts s ++ totals s) (run s) (fits_as whole (record { room = sized_room (answer_sized (as_sheet s) c.args.s.good) long })))
+    (puts_more {bytes = head s} c.write_head.ensures c.write_parts-totals.ensures.0))
 
 pub write_run-requires : goal.write_run-requires
 write_run-requires c =
-    let (F, good, long) = c.requires in
-    let s = c.args.s in
-    let whole = lines_are s (search rules) (omega (arith, F.left.monic.array.fits)) in (
-      c.run_asked-run.ensures,
-      room_next (head s ++ parts s ++ totals s) (run s) (room_as whole (sized_room (answer_sized (as_sheet s) good) long))
-          (wrote_more {bytes = head s ++ parts s} (wrote_more {bytes = head s} c.write_head-first.ensures c.write_parts-w.ensures.0)
-          (wrote_as (ap total_text c.write_parts-w.ensures.1) c.write_totals-last.ensures)),
-    )
+    let (F, long) = c.requires in
+    let s = c.args.s.sheet in
+    let whole = lines_are s (search rules) (omega (arith, F.left.monic.array.fits)) in
+    fits_next (head s ++ parts s ++ totals s) (run s) (fits_as whole (record { room = sized_room (answer_sized (as_sheet s) c.args.s.good) long }))
+    (puts_more {bytes = head s ++ parts s} (puts_more {bytes = head s} c.write_head.ensures c.write_parts-totals.ensures.0)
+    (puts_as (ap total_text c.write_parts-totals.ensures.1) c.write_totals.ensures))
 
 pub returns : goal.returns
 returns c =
-    let s = c.args.s in
-    wrote_as (lines_are s (search rules) (omega (arith, c.requires.0.left.monic.array.fits)))
-    (wrote_more {bytes = head s ++ parts s ++ totals s}
-    (wrote_more {bytes = head s ++ parts s} (wrote_more {bytes = head s} c.write_head-first.ensures c.write_parts-w.ensures.0)
-    (wrote_as (ap total_text c.write_parts-w.ensures.1) c.write_totals-last.ensures))
-    c.write_run.ensures)
+    let s = c.args.s.sheet in
+    let w = puts_as (lines_are s (search rules) (omega (arith, c.requires.0.left.monic.array.fits)))
+    (puts_more {bytes = head s ++ parts s ++ totals s}
+    (puts_more {bytes = head s ++ parts s} (puts_more {bytes = head s} c.write_head.ensures c.write_parts-totals.ensures.0)
+    (puts_as (ap total_text c.write_parts-totals.ensures.1) c.write_totals.ensures))
+    c.write_run.ensures) in
+    search rules

@@ -5,7 +5,6 @@ use mathlib.Core.List.{List}
 use Prim.Native.Nat.{ℕ}
 use Rattle.specification.specs.Sheets.{read_sheet, fault}
 use Rattle.specification.specs.Text.{refusal_text, printed}
-use Rattle.sheet_reader.proofs.ReadLaws.{read_accepted}
 use Rattle.area.specs.Wrote.{wrote_as, room_as}
 use Rattle.split_text.specs.TextSize.{sized_room}
 use Rattle.split_text.specs.Printed.{printed_accepted, printed_refused, printed_sized}
@@ -14,9 +13,6 @@ use Rattle.split_text.proofs.write_text.Goals as goal
 -- the number that is printed is the fault's
 refusal : (bytes : List ℕ) (number k at : ℕ) → number ≡ k → read_sheet bytes ≡ fault k at → refusal_text number at ≡ printed bytes
 refusal bytes number k at e h = rw e (sym (printed_refused bytes h))
-
-pub answer_text-requires : goal.answer_text-requires
-answer_text-requires c = let r = read_accepted c.in-Ok.ensures in (r.monic, r.good, c.requires)
 
 pub refusal_text-requires : goal.refusal_text-requires
 refusal_text-requires c =

@@ -21,21 +21,21 @@ own {new = new} {count = count} w = ap (λ (k : ℕ). take k new) (let e : count
 
 pub sorted_pairs-pairs-requires : goal.sorted_pairs-pairs-requires
 sorted_pairs-pairs-requires c =
-    let s = c.args.s in (
+    let s = c.args.s.sheet in (
       subst (λ (bytes : List ℕ). All WellFormed (commands bytes)) (sym (own c.answer_to-count.ensures)) (commands_whole (plain s)),
-      subst (λ (bytes : List ℕ). length (pairs_in bytes) ≤ 32) (sym (own c.answer_to-count.ensures)) (pairs_fit (plain s) (plain_good s c.requires.1)),
+      subst (λ (bytes : List ℕ). length (pairs_in bytes) ≤ 32) (sym (own c.answer_to-count.ensures)) (pairs_fit (plain s) (plain_good s c.args.s.good)),
     )
 
 pub write_copy-requires : goal.write_copy-requires
 write_copy-requires c =
     room_as
-    (ap copy_of (figures_are c.args.s c.requires.0 c.sorted_pairs-pairs.result
+    (ap copy_of (figures_are c.args.s.sheet c.args.s.monic c.sorted_pairs-pairs.result
     (c.sorted_pairs-pairs.ensures.1 ∙ ap (λ (bytes : List ℕ). sorted (pairs_in bytes)) (own c.answer_to-count.ensures))))
-    (copy_room c.args.s c.requires.1 c.requires.2)
+    (copy_room c.args.s.sheet c.args.s.good c.requires)
 
 pub returns : goal.returns
 returns c =
     wrote_as
-    (ap copy_of (figures_are c.args.s c.requires.0 c.sorted_pairs-pairs.result
+    (ap copy_of (figures_are c.args.s.sheet c.args.s.monic c.sorted_pairs-pairs.result
     (c.sorted_pairs-pairs.ensures.1 ∙ ap (λ (bytes : List ℕ). sorted (pairs_in bytes)) (own c.answer_to-count.ensures))))
     c.write_copy.ensures

@@ -1,14 +1,10 @@
 -- `splitter::split` meets its contract.
 -- Assumes nothing.
-use Rattle.sheet_reader.proofs.ReadLaws.{read_accepted}
 use Rattle.splitter.specs.Outcomes.{called_refused, called_wrote, split_short, split_refused, split_answered}
 use Rattle.splitter.proofs.split.Goals as goal
 
 pub returns-then-area-lt-AREA : goal.returns-then-area-lt-AREA
 returns-then-area-lt-AREA c = called_refused (split_short _ _ c.if-area-lt-AREA.true) (rw c.at.ensures at c.from.ensures)
-
-pub answer_to-requires : goal.answer_to-requires
-answer_to-requires c = let r = read_accepted c.in-Ok.ensures in (r.monic, r.good, c.if-area-lt-AREA.false)
 
 pub returns-in-Ok : goal.returns-in-Ok
 returns-in-Ok c = called_wrote (split_answered _ _ c.if-area-lt-AREA.false c.in-Ok.ensures.0) c.success.ensures c.answer_to.ensures

@@ -6,7 +6,7 @@ use borrow.Author.Rules.{rules}
 use Rattle.specification.specs.Text.{item, verdict_text, factor_text}
 use Rattle.part_verdict.specs.declared.Part.{Part}
 use Rattle.part_verdict.specs.AsPart.{as_verdict, as_factors}
-use Rattle.area.specs.Wrote.{wrote_more, wrote_as, room_as, room_first, room_next}
+use Rattle.area.specs.Cursors.{puts_more, puts_as, fits_next, fits_as, fits_first}
 use Rattle.split_text.specs.TextArrays.{part_is_lem}
 use Rattle.split_text.proofs.LinesPartWriter.write_part.Goals as goal
 
@@ -20,33 +20,33 @@ word x = verdict_text (as_verdict x.verdict)
 abbrev factors : Part → List ℕ
 factors x = flat_map factor_text (as_factors x.first x.second)
 
-pub write_items-verdict_place-requires : goal.write_items-verdict_place-requires
-write_items-verdict_place-requires c =
+pub write_items-requires : goal.write_items-requires
+write_items-requires c =
     let x = c.args.part in
-    room_first (items x) (word x)
-    (room_first (items x ++ word x) (factors x) (room_as (part_is_lem x (search rules) c.requires.0.base) c.requires.1))
+    fits_first (items x) (word x)
+    (fits_first (items x ++ word x) (factors x) (fits_as (part_is_lem x (search rules) c.requires.0.base) c.requires.1))
 
-pub put_all-next-requires : goal.put_all-next-requires
-put_all-next-requires c =
+pub put_all-requires : goal.put_all-requires
+put_all-requires c =
     let x = c.args.part in
-    (room_as c.verdict_word-word.ensures
-    (room_next (items x) (word x)
-    (room_first (items x ++ word x) (factors x) (room_as (part_is_lem x (search rules) c.requires.0.base) c.requires.1))
-    c.write_items-verdict_place.ensures)).fits
+    (fits_as c.verdict_word-word.ensures
+    (fits_next (items x) (word x)
+    (fits_first (items x ++ word x) (factors x) (fits_as (part_is_lem x (search rules) c.requires.0.base) c.requires.1))
+    c.write_items.ensures)).room.fits
 
 pub write_factors-requires : goal.write_factors-requires
 write_factors-requires c =
     let x = c.args.part in (
       c.requires.0.first,
       c.requires.0.second,
-      room_next (items x ++ word x) (factors x) (room_as (part_is_lem x (search rules) c.requires.0.base) c.requires.1)
-          (wrote_more {bytes = items x} c.write_items-verdict_place.ensures (wrote_as c.verdict_word-word.ensures c.put_all-next.ensures)),
+      fits_next (items x ++ word x) (factors x) (fits_as (part_is_lem x (search rules) c.requires.0.base) c.requires.1)
+          (puts_more {bytes = items x} c.write_items.ensures (puts_as c.verdict_word-word.ensures c.put_all.ensures)),
     )
 
 pub returns : goal.returns
 returns c =
     let x = c.args.part in
-    wrote_as (part_is_lem x (search rules) c.requires.0.base)
-    (wrote_more {bytes = items x ++ word x}
-    (wrote_more {bytes = items x} c.write_items-verdict_place.ensures (wrote_as c.verdict_word-word.ensures c.put_all-next.ensures))
+    puts_as (part_is_lem x (search rules) c.requires.0.base)
+    (puts_more {bytes = items x ++ word x}
+    (puts_more {bytes = items x} c.write_items.ensures (puts_as c.verdict_word-word.ensures c.put_all.ensures))
     c.write_factors.ensures)

@@ -1,8 +1,0 @@
--- `modp_halves::halve` meets its contract. The loop has seen that the gcd of Q and v - k is 1 for every k below c.
--- Assumes nothing.
-use Rattle.std.proofs.Common.{ℕ, ◌<◌}
-use Rattle.modp_halves.specs.Halves.{Halvable, CoprimeTo}
-use Rattle.modp_halves.proofs.halve.Given as goal
-
-abbrev pub invariant-loop-c : goal.invariant-loop-c
-invariant-loop-c l = (S : Halvable l.p l.q l.d l.v) → (k : ℕ) → k < l.c → CoprimeTo S k
