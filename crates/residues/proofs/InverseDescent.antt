@@ -1,9 +1,9 @@
 -- Inverses modulo a prime by descent from e to p % e, the step of `algebra/Fields` in numbers: `Descent p c r e`, c·r is e modulo p.
--- Proves that it goes on so, and that e is not 0. Assumes nothing.
+-- Proves that the descent begins so, goes on so with a smaller e that is not 0, and has an inverse where e is 1. Assumes nothing.
 use mathlib.Core.Path.{◌≡◌, sym, ◌∙◌, ap}
 use mathlib.Core.Logic.{◌≢◌}
 use Prim.Native.Nat.{ℕ, zero, suc, ◌<◌, ◌+◌, ◌-◌, ◌*◌, ◌/◌, ◌%◌}
-use native.Mathlib.Nat.{mul_assoc, mod-lt, mod-eq_of_lt, div-add-mod', div-le_self, mul-add-mod_self_right, pos_of_ne-zero}
+use native.Mathlib.Nat.{mul-one, mul_assoc, mod-lt, mod-eq_of_lt, div-add-mod', div-le_self, mul-add-mod_self_right, pos_of_ne-zero}
 use native.Mathlib.Omega.{arith}
 use Rattle.algebra.specs.Numbers.{mul_mod_mod, mod_mul_mod}
 use Rattle.algebra.specs.Fields.{Prime}
@@ -13,6 +13,9 @@ pub record Descent (p c r e : ℕ) : Type 0 where
   pub small : e < p
   pub low : r < p
   pub law : c * r % p ≡ e
+
+pub descent_none : {p c : ℕ} → 1 < p → 0 < c → c < p → Descent p c 1 c
+descent_none {p} {c} large pos l = record { positive = pos; small = l; low = large; law = rw mul-one (mod-eq_of_lt l) }
 
 product_whole : (k p q m z : ℕ) → z + q ≡ p → q * suc k + m ≡ p → suc k * z ≡ k * p + m
 product_whole k p q m z e f = omega (arith, ap (λ (v : ℕ). suc k * v) e, f)
@@ -35,3 +38,9 @@ module _ {p c r e : ℕ} (P : Prime p) (h : Descent p c r e) (more : e ≢ 1) wh
     law = ap (λ (v : ℕ). c * v % p) is ∙ mul_mod_mod c (r * (p - p / e)) p ∙ ap (λ (v : ℕ). v % p) (sym (mul_assoc c r (p - p / e)))
         ∙ sym (mod_mul_mod (c * r) (p - p / e) p) ∙ ap (λ (v : ℕ). v * (p - p / e) % p) h.law ∙ remainder_of_product p e h.positive h.small;
   }
+
+pub descent_less : {p c r e : ℕ} → Descent p c r e → p % e < e
+descent_less {p} h = mod-lt p h.positive
+
+pub descent_done : {p c r e : ℕ} → Descent p c r e → e ≡ 1 → (r < p) × (c * r % p ≡ 1)
+descent_done h e = (h.low, h.law ∙ e)

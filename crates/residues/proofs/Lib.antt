@@ -1,2 +1,3 @@
 pub mod Reciprocals
+pub mod Widths
 pub mod InverseDescent

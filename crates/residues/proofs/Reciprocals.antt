@@ -1,10 +1,11 @@
 -- Division by a product: with w = (B − 1) / n the number s·w / B is the quotient of s by n, or one less; B is 2^32 or 2^16.
--- Proves it for every s below B, what is left of s in both cases, and that the reciprocal of 16 bits is the upper half of that of 32.
--- Assumes nothing.
+-- Proves it for every s below B, what is left of s in both cases, the quotient, that products and quotients fit, and that the reciprocal of 16 bits is the
+-- upper half of that of 32. Assumes nothing.
 use mathlib.Core.Path.{◌≡◌, sym, ◌∙◌, ap}
 use Prim.Native.Nat.{ℕ, ◌≤◌, ◌<◌, ◌+◌, ◌-◌, ◌*◌, ◌/◌, ◌%◌}
 use native.Mathlib.Nat.{
   div-add-mod',
+  div-eq_of_lt-le,
   div-div-eq-div-mul,
   mod-lt,
   mul_comm,
@@ -41,6 +42,28 @@ module _ (B n w s : ℕ) (positive : 0 < n) (is : w ≡ (B - 1) / n) (low : s < 
 
   pub quotient_high : s < q * n + n + n
   quotient_high = lt_of_mul-lt-mul_right B (omega (arith, mul-le-mul_right n q_high, mul-le-mul_left s w_high, mul-le-mul_right n low, positive))
+
+  w_small : w ≤ B
+  w_small = omega (arith, w_low, mul-le-mul_left w positive)
+
+  -- the product has twice the bits of s, the quotient as many
+  pub product_fits : s * w < B * B
+  product_fits = omega (arith, mul-le-mul_left s w_small, mul-le-mul_right B low, room)
+
+  pub quotient_fits : q < B
+  quotient_fits = omega (arith, quotient_low, mul-le-mul_left q positive, low)
+
+  pub more_fits : n ≤ s - q * n → q + 1 < B
+  more_fits l = omega (arith, quotient_low, mul-le-mul_left q positive, low, positive)
+
+  goes : (k r : ℕ) → s ≡ k * n + r → r < n → k ≡ s / n
+  goes k r e l = sym (div-eq_of_lt-le n (omega arith) (omega arith))
+
+  pub once_gone : s - q * n < n → q ≡ s / n
+  once_gone l = goes q (s - q * n) (omega (arith, quotient_low)) l
+
+  pub twice_gone : n ≤ s - q * n → q + 1 ≡ s / n
+  twice_gone l = goes (q + 1) (s - q * n - n) (omega (arith, quotient_low)) (omega (arith, quotient_high))
 
 -- what is left of s is its remainder, or more by n
 module _ (n q s : ℕ) (fits : q * n ≤ s) where
