@@ -6,7 +6,6 @@ use native.Mathlib.Omega.{arith}
 use borrow.Author.Tests.{ltb-true, ltb-false}
 use Rattle.answer_reader.proofs.CandidateFound.{no_answer, first_there, prime_there, prime_taken, product_there, degree_positive, run_allowed, candidate_found}
 use Rattle.answer_reader.proofs.find_candidate.Goals as goal
-use Rattle.answer_reader.proofs.find_candidate.Goals.{then-not-positive-via-then-not-positive, then-not-positive-via-else-not-positive+then-not-run_allowed}
 
 pub returns-in_err-at : goal.returns-in_err-at
 returns-in_err-at c = rw c.from_residual.ensures (no_answer (λ s g e. first_there s e c.in_err-at.ensures))
@@ -25,14 +24,13 @@ returns-in_err-f c =
 
 pub returns-then-not-positive : goal.returns-then-not-positive
 returns-then-not-positive c =
+    no_answer (λ s g e. omega (arith, degree_positive s g e c.in_ok-at.ensures c.in_ok-prime.ensures c.in_ok-f.ensures, ltb-false, c.if-not-positive.true))
+
+pub returns-then-not-run_allowed : goal.returns-then-not-run_allowed
+returns-then-not-run_allowed c =
     no_answer (λ s g e.
-    elim c.then-not-positive.branch [
-      | then-not-positive-via-then-not-positive w ↦
-          absurd (omega (arith, degree_positive s g e c.in_ok-at.ensures c.in_ok-prime.ensures c.in_ok-f.ensures, ltb-false, w.if-not-positive.true))
-      | then-not-positive-via-else-not-positive+then-not-run_allowed w ↦
-          w.run_allowed.ensures.no w.if-not-run_allowed.true
-          (run_allowed s g e c.in_ok-at.ensures c.in_ok-prime.ensures c.in_ok-f.ensures c.shows_run-run.ensures)
-    ])
+    c.run_allowed.ensures.no c.if-not-run_allowed.true
+    (run_allowed s g e c.in_ok-at.ensures c.in_ok-prime.ensures c.in_ok-f.ensures c.shows_run-run.ensures))
 
 pub returns : goal.returns
 returns c =
