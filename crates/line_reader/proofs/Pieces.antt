@@ -20,7 +20,7 @@ use Rattle.refusals.specs.declared.Refused.{Refused}
 use Rattle.refusals.specs.declared.Refusal.TheVariants.{NotALine}
 use Rattle.line_values.specs.declared.Sign.{Sign}
 use Rattle.line_values.specs.declared.Sign.TheVariants.{Plus, Minus}
-use Rattle.line_values.specs.Worth.{Value, OfNumber, OfX, OfSum, OfProduct, OfPower}
+use Rattle.line_values.specs.Worth.{Value, OfNumber, OfX, SignedSum, OfProduct, OfPower}
 use Rattle.line_reader.specs.declared.Piece.{Piece}
 use Rattle.line_reader.specs.Levels as levels
 use Rattle.line_reader.specs.LineContracts.{
@@ -255,7 +255,7 @@ module _ {s : List ℕ} {p : ℕ} where
     after_minus i K ok g = runs.minus_runs (runs.expression_runs a.stands K ok g) (between b i f)
 
     pub summands_more : (sign : Sign) → At s place (sign_byte sign) → {next : ℕ} {part q : Value} → ProductStands s p from next part
-        → OfSum p sign all part q → SummandsStand s p at next q
+        → SignedSum p sign all part q → SummandsStand s p at next q
     summands_more Plus i h o = record {
       reach = omega (arith, beyond_sign, h.reach);
       within = h.within;

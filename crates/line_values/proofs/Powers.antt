@@ -9,7 +9,7 @@ use Rattle.std.specs.Prelude.{Ok, Err}
 use Prim.Native.Nat.{ℕ, ◌-◌, ◌*◌, ◌<◌, ◌≤◌}
 use native.Mathlib.Omega.{arith}
 use lib.Dec.{ltb}
-use borrow.Author.Tests.{lt-ltb, le-ltb}
+use borrow.Author.Tests.{lt-ltb, le-ltb, ltb-false}
 use Rattle.specification.specs.Limits.{taken, ◌², number_limit, exponent_limit}
 use Rattle.specification.specs.Grammar.{Tree, power}
 use Rattle.specification.specs.TypedLines.{meaning, is_high}
@@ -25,7 +25,7 @@ use Rattle.refusals.specs.declared.Refusal.{Refusal}
 use Rattle.refusals.specs.declared.Refusal.TheVariants.{LineTooLarge, NoPattern}
 use Rattle.line_values.specs.Worth.{held, judged, tree_number, Value, Worth, OfPower}
 use Rattle.line_values.specs.HeldNumbers.{held_small, held_large}
-use Rattle.line_values.proofs.Judging.{judged_more, judged_high, some_number}
+use Rattle.line_values.proofs.Judging.{judged_none, judged_more, judged_high, some_number}
 use Rattle.line_values.proofs.Pieces.{large, high, tree_number_lem, power_number, none, sized, back, unheld}
 
 held_exponent : (j : ℕ) → ltb exponent_limit (held j) ≡ ltb exponent_limit j
@@ -34,6 +34,26 @@ held_exponent j = at (lt_or_le number_limit j)
     at : (number_limit < j) ⊎ (j ≤ number_limit) → ltb exponent_limit (held j) ≡ ltb exponent_limit j
     at (inl l) = ap (ltb exponent_limit) (held_large j l) ∙ sym (lt-ltb exponent_limit j (omega arith))
     at (inr l) = ap (ltb exponent_limit) (held_small j l)
+
+-- 16 for an exponent over 32, and 0 for any other
+exponent_over : {l e : ℕ} → exponent_limit < e → l ≡ 16 → l ≡ judged (ltb exponent_limit e) false
+unfolding judged
+exponent_over {e = e} h q = q ∙ sym (ap (λ (b : Bool). judged b false) (lt-ltb exponent_limit e h))
+
+exponent_within : {l e : ℕ} → e ≤ exponent_limit → l ≡ 0 → l ≡ judged (ltb exponent_limit e) false
+unfolding judged
+exponent_within {e = e} h q = q ∙ sym (ap (λ (b : Bool). judged b false) (le-ltb exponent_limit e h))
+
+-- both, as a test of the exponent gives it
+pub exponent_test : {l e : ℕ} → (exponent_limit < e → l ≡ 16) → (e ≤ exponent_limit → l ≡ 0) → l ≡ judged (ltb exponent_limit e) false
+exponent_test {l} {e} over within = at (lt_or_le exponent_limit e)
+  where
+    at : (exponent_limit < e) ⊎ (e ≤ exponent_limit) → l ≡ judged (ltb exponent_limit e) false
+    at (inl h) = exponent_over h (over h)
+    at (inr h) = exponent_within h (within h)
+
+pub exponent_small : {l e : ℕ} → l ≡ judged (ltb exponent_limit e) false → l ≡ 0 → e ≤ exponent_limit
+exponent_small {l} {e} test z = ltb-false exponent_limit e (judged_none (ltb exponent_limit e) false (sym test ∙ z)).0
 
 -- 16 wherever the exponent is over 32
 pub power_large : {p e : ℕ} {a : Value} → exponent_limit < e → OfPower p a e (Err LineTooLarge)

@@ -15,7 +15,7 @@ use Rattle.refusals.specs.declared.Refusal.{Refusal}
 use Rattle.refusals.specs.Numbers.{number_of}
 use Rattle.line_values.specs.declared.Sign.{Sign}
 use Rattle.line_values.specs.declared.Sign.TheVariants.{Plus, Minus}
-use Rattle.line_values.specs.Worth.{tree_number, judged, Value, number_in, Worth, Worse, signed, OfSum}
+use Rattle.line_values.specs.Worth.{tree_number, judged, Value, number_in, Worth, Worse, signed, SignedSum}
 use Rattle.line_values.proofs.Judging.{judged_high}
 use Rattle.line_values.proofs.Pieces.{large, high, plus_number, minus_number, none, back, joined}
 
@@ -23,7 +23,7 @@ signed_number : (p : ℕ) (sign : Sign) (t u : Tree) → tree_number p (signed s
 signed_number p Plus t u = plus_number p t u
 signed_number p Minus t u = minus_number p t u
 
-pub sum_without : {p : ℕ} {a b : Value} {why : Refusal} (sign : Sign) → Worse (number_in a) (number_in b) (number_of why) → OfSum p sign a b (Err why)
+pub sum_without : {p : ℕ} {a b : Value} {why : Refusal} (sign : Sign) → Worse (number_in a) (number_in b) (number_of why) → SignedSum p sign a b (Err why)
 sum_without {p} sign worse = record { worth = λ t u wt wu. back (joined worse wt wu ∙ sym (signed_number p sign t u)) }
 
 module _ {p : ℕ} (pos : 0 < p ²) {f g : List ℕ} where
@@ -31,7 +31,7 @@ module _ {p : ℕ} (pos : 0 < p ²) {f g : List ℕ} where
   no_number sign {t} {u} wt wu =
       sym (signed_number p sign t u ∙ ap₂ judged (ap₂ ◌||◌ (none wt).0 (none wu).0) (ap₂ ◌||◌ (none wt).1 (none wu).1) ∙ judged_high false)
 
-  pub sum_with : {r : List ℕ} → Represents (p ²) r (poly (p ²) f +ᴿ poly (p ²) g) → OfSum p Plus (Ok f) (Ok g) (Ok r)
+  pub sum_with : {r : List ℕ} → Represents (p ²) r (poly (p ²) f +ᴿ poly (p ²) g) → SignedSum p Plus (Ok f) (Ok g) (Ok r)
   unfolding meaning
   sum_with h = record {
     worth = λ t u wt wu. record {
@@ -43,7 +43,7 @@ module _ {p : ℕ} (pos : 0 < p ²) {f g : List ℕ} where
     };
   }
 
-  pub difference_with : {r : List ℕ} → Represents (p ²) r (poly (p ²) f +ᴿ -ᴿ poly (p ²) g) → OfSum p Minus (Ok f) (Ok g) (Ok r)
+  pub difference_with : {r : List ℕ} → Represents (p ²) r (poly (p ²) f +ᴿ -ᴿ poly (p ²) g) → SignedSum p Minus (Ok f) (Ok g) (Ok r)
   unfolding meaning
   difference_with h = record {
     worth = λ t u wt wu. record {

@@ -2,7 +2,7 @@
 -- The contracts of the pieces: whatever the parts are worth, the whole is worth what the tree over them is. Assumes nothing.
 use Rattle.std.specs.Prelude.{◌≡◌, Bool, true, cond, ◌||◌, List, Result, Ok, Err, IfOk, MatchResult, ℕ, leb}
 use Rattle.specification.specs.Limits.{taken, ◌², number_limit}
-use Rattle.specification.specs.Grammar.{Tree, number, variable, power, times, plus, minus}
+use Rattle.specification.specs.Grammar.{Tree, number, variable, power, times, plus, minus, minus_sign}
 use Rattle.specification.specs.TypedLines.{meaning, any_part, is_large, is_high}
 use Rattle.algebra.specs.CoefficientLists.{poly, Reduced}
 use Rattle.arrays.specs.Represents.{Represents}
@@ -61,8 +61,13 @@ abbrev pub signed : Sign → Tree → Tree → Tree
 signed Plus = plus
 signed Minus = minus
 
-pub record OfSum (p : ℕ) (sign : Sign) (a b r : Value) : Type 0 where
+pub record SignedSum (p : ℕ) (sign : Sign) (a b r : Value) : Type 0 where
   pub worth : (t u : Tree) → Worth p t a → Worth p u b → Worth p (signed sign t u) r
+
+-- a sum by the byte that stands for its sign: any but a minus adds
+pub record OfSum (p sign : ℕ) (a b r : Value) : Type 0 where
+  pub sum : (sign ≡ minus_sign → ⊥) → (t u : Tree) → Worth p t a → Worth p u b → Worth p (plus t u) r
+  pub difference : sign ≡ minus_sign → (t u : Tree) → Worth p t a → Worth p u b → Worth p (minus t u) r
 
 pub record OfProduct (p : ℕ) (a b r : Value) : Type 0 where
   pub product : (t u : Tree) → Worth p t a → Worth p u b → Worth p (times t u) r

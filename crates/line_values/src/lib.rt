@@ -9,7 +9,7 @@ ghost use Rattle.algebra.specs.Divisibility.{pow};
 ghost use Rattle.algebra.specs.Degree.{Below};
 ghost use Rattle.lists.specs.Decides.{Decides};
 ghost use Rattle.arrays.specs.Represents.{Represents};
-ghost use Rattle.line_values.specs.Worth.{Sound, Both, OfNumber, OfX, OfSum, OfProduct, OfPower};
+ghost use Rattle.line_values.specs.Worth.{Sound, Both, OfNumber, OfX, SignedSum, OfSum, OfProduct, OfPower};
 
 use arrays::Coefs;
 use modular::{difference, product, sum};
@@ -67,14 +67,26 @@ pub enum Sign {
 
 // a + b or, after a minus, a - b.
 #[tactic(auto, using(crate::proofs::Sums::sum_with, crate::proofs::Sums::difference_with, algebra::specs::TakenPrimes::square_above_one))]
-pub fn of_sum(sign: Sign, a: Value, b: Value, p: TakenPrime) -> Value
+pub fn signed_sum(sign: Sign, a: Value, b: Value, p: TakenPrime) -> Value
     requires { Sound p.value a × Sound p.value b }
-    ensures { OfSum p.value sign a b result }
+    ensures { SignedSum p.value sign a b result }
 {
     let (f, g) = both(a, b)?;
     match sign {
         Sign::Plus => Ok(sum(f, g, square(p.value))),
         Sign::Minus => Ok(difference(f, g, square(p.value))),
+    }
+}
+
+// The same by the byte of the sign: any but `-` adds.
+pub fn of_sum(sign: u8, a: Value, b: Value, p: TakenPrime) -> Value
+    requires { Sound p.value a × Sound p.value b }
+    ensures { OfSum p.value sign a b result }
+{
+    if sign == b'-' {
+        signed_sum(Sign::Minus, a, b, p)
+    } else {
+        signed_sum(Sign::Plus, a, b, p)
     }
 }
 

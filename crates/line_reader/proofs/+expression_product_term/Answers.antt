@@ -30,7 +30,7 @@ expression-loop-sign-preserved t c =
     let inv = c.loop-sign.invariant in
     record {
       stands = pieces.summands_more inv.stands inv.blanks c.skip-from.ensures c.in-Some.sign
-          (sum_at c.in-Some.sign c.byte.ensures c.in-Some.ensures) c.in_ok-part.ensures c.of_sum.ensures;
+          (sum_at c.in-Some.sign c.byte.ensures c.in-Some.ensures) c.in_ok-part.ensures c.signed_sum.ensures;
       blanks = c.skip-place-in-Some.ensures;
     }
 
