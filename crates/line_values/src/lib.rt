@@ -28,10 +28,11 @@ pub fn is_too_large(a: Value) -> bool
 }
 
 // Both values, or the refusal that comes first: 16 before 17.
+#[tactic(auto, using(crate::proofs::Judging::both_second, crate::proofs::Judging::both_first_refused, crate::proofs::Judging::both_second_refused, crate::proofs::Judging::passed_on))]
 fn both(a: Value, b: Value) -> Result<(Coefs, Coefs), Refusal>
     ensures { Both a b result }
 {
-    if is_too_large(b) {
+    if matches!(b, Err(Refusal::LineTooLarge)) {
         return Err(Refusal::LineTooLarge);
     }
     Ok((a?, b?))
