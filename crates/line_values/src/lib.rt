@@ -28,7 +28,7 @@ pub fn is_too_large(a: Value) -> bool
 }
 
 // Both values, or the refusal that comes first: 16 before 17.
-#[tactic(auto, using(crate::proofs::Judging::both_second, crate::proofs::Judging::both_first_refused, crate::proofs::Judging::both_second_refused, crate::proofs::Judging::passed_on))]
+#[tactic(auto, using(crate::proofs::Judging::both_second, crate::proofs::Judging::both_first_refused, crate::proofs::Judging::both_second_refused))]
 fn both(a: Value, b: Value) -> Result<(Coefs, Coefs), Refusal>
     ensures { Both a b result }
 {
