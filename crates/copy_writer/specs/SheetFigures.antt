@@ -27,9 +27,7 @@ use Rattle.claims.specs.Proved.{shapes, degrees_low, copy_fit}
 use Rattle.commands.specs.declared.Sheet.{Sheet}
 use Rattle.commands.specs.AsSheet.{as_sheet}
 use Rattle.area.specs.Wrote.{Room}
-use Rattle.arrayvec.specs.ArrayVec.{ArrayVec}
-use Rattle.copy_writer.specs.declared.Pair.{Pair}
-use Rattle.copy_writer.specs.HeldPairs.{held_pairs, as_figures}
+use Rattle.copy_writer.specs.HeldPairs.{Pairs, held_pairs, as_figures}
 
 -- ---- an answer
 
@@ -51,7 +49,7 @@ module _ (s : Sheet) where
   plain_good g = record { prime = g.prime; monic = g.monic; fits = g.fits; may_ask = λ e. absurd (false≢true e) }
 
   -- it has the figures of the sheet
-  pub figures_are : MonicModSquare s.prime s.coefs s.degree → (r : ArrayVec Pair) → held_pairs r ≡ sorted (pairs_in (answer plain))
+  pub figures_are : MonicModSquare s.prime s.coefs s.degree → (r : Pairs) → held_pairs r ≡ sorted (pairs_in (answer plain))
       → as_figures s.prime s.degree r ≡ figures_of (as_sheet s)
   unfolding figures_of
   figures_are m r h =

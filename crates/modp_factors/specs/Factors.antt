@@ -10,14 +10,15 @@ use Rattle.arrays.specs.Listed.{listed}
 use Rattle.arrays.specs.Held.{MonicArray}
 use Rattle.factorisation.specs.Irreducible.{Irreducible}
 use Rattle.modp_factors.specs.declared.Power.{Power}
-use Rattle.arrayvec.specs.ArrayVec.{ArrayVec}
+use Rattle.few.specs.declared.Few.{Few}
+use Rattle.few.specs.Few.{items}
 
--- the powers found, as the vector that holds them
+-- the powers found, in the struct that holds them
 abbrev pub Powers : Type 0
-Powers = ArrayVec Power
+Powers = Few Power 32
 
 abbrev pub held_powers : Powers → List Power
-held_powers r = r.items
+held_powers r = items r
 
 -- the base, to its exponent
 abbrev pub power_poly : (p : ℕ) → Power → ℤ[x]/ p
