@@ -12,7 +12,7 @@ use Rattle.algebra.specs.Degree.{Monic, below_𝟎}
 use Rattle.algebra.specs.Fields.{residue_nontrivial}
 use Rattle.algebra.specs.CoefficientLists.{ℤ[x]/, poly, Reduced, poly_nil, coef_poly}
 use Rattle.algebra.specs.ListDivision.{poly_zeros}
-use Rattle.arrays.specs.Represents.{zeros}
+use Rattle.arrays.specs.Represents.{Represents, zeros}
 use Rattle.arrays.specs.SameEntries.{zero_above}
 use Rattle.frobenius.specs.Span.{Slot}
 use Rattle.frobenius.specs.RowReduction.{Stage, stage_none}
@@ -33,6 +33,10 @@ image_at rows k = get_or-map (λ r. r.image) rows k no_row
 
 pub preimage_at : (rows : List Row) (k : ℕ) → get_or (row_preimages rows) k [] ≡ (get_or rows k no_row).preimage
 preimage_at rows k = get_or-map (λ r. r.preimage) rows k no_row
+
+-- image and preimage in slot k are 0
+abbrev pub FreeSlot : ℕ → List Row → ℕ → Type 0
+FreeSlot p rows k = Represents p (get_or rows k no_row).image 𝟎 × Represents p (get_or rows k no_row).preimage 𝟎
 
 -- for rows, preimages and the images given; past the last slot, 0
 abbrev pub poly_at : (p : ℕ) → List (List ℕ) → ℕ → ℤ[x]/ p

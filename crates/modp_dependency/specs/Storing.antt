@@ -3,6 +3,7 @@
 -- Proves the first of what is added to a free slot, and that the stage of a search goes on with the second. Assumes nothing.
 use Rattle.std.specs.Prelude.{◌≡◌, List, [], ◌≢◌, ℕ, suc, ◌<◌, ◌≤◌, ◌*◌, ◌%◌, length, get_or, map, set}
 use Rattle.std.proofs.Common.{sym, ◌∙◌, ap, length-set, get_or-set_same, get_or-set_other}
+use Rattle.std.proofs.lemmas.List.{set-set}
 use Rattle.std.proofs.Math.Decide.{ℕ_discrete}
 use Rattle.std.proofs.Math.ListN.{length-map}
 use Rattle.algebra.specs.Residues.{ℤ/, residue, Residues, residue_inverse}
@@ -17,7 +18,7 @@ use Rattle.modular.specs.InPlace.{Added}
 use Rattle.modular.specs.Multiples.{multiple_represented}
 use Rattle.modular.proofs.AddMultiple.{multiple_added_to}
 use Rattle.modp_dependency.specs.declared.Row.{Row}
-use Rattle.modp_dependency.specs.StoredRows.{poly_at, ReducedRows, row_images, row_preimages, no_row, image_at, preimage_at}
+use Rattle.modp_dependency.specs.StoredRows.{FreeSlot, poly_at, ReducedRows, row_images, row_preimages, no_row, image_at, preimage_at}
 
 pub record MonicRow (p : ℕ) (u w : List ℕ) (k : ℕ) (u' w' : List ℕ) : Type 0 where
   pub scale : ℤ/ p
@@ -42,6 +43,21 @@ row_stored {p} rows {u} {w} {k} {r} l h = record {
   where
     same : (f : Row → List ℕ) → length (map f (set rows k r)) ≡ length (map f rows)
     same f = length-map (set rows k r) f ∙ length-set rows k r ∙ sym (length-map rows f)
+
+-- the slot k has the image a, and the preimage that it had
+abbrev pub with_image : List Row → ℕ → List ℕ → List Row
+with_image rows k a = set rows k (record { image = a; preimage = (get_or rows k no_row).preimage })
+
+pub preimage_kept : {p : ℕ} (rows : List Row) {k : ℕ} (a : List ℕ) → k < length rows → FreeSlot p rows k
+    → Represents p (get_or (with_image rows k a) k no_row).preimage 𝟎
+preimage_kept rows {k} a l h = rw (get_or-set_same rows k _ no_row l) h.1
+
+-- the image is put into the slot first, and then the preimage
+pub halves_stored : {p : ℕ} (rows : List Row) {u w : List ℕ} {k : ℕ} {a b : List ℕ} → k < length rows → MonicRow p u w k a b
+    → Stored p (row_images rows) (row_preimages rows) u w k
+    (row_images (set (with_image rows k a) k (record { image = (get_or (with_image rows k a) k no_row).image; preimage = b })))
+    (row_preimages (set (with_image rows k a) k (record { image = (get_or (with_image rows k a) k no_row).image; preimage = b })))
+halves_stored rows {k = k} l h = rw (set-set rows k, get_or-set_same rows k _ no_row l) (row_stored rows l h)
 
 -- c is the inverse of the leading coefficient, and the slot holds r and s
 pub monic_row : {p : ℕ} → Prime p → {u w r s : List ℕ} {k : ℕ} (c : ℕ) {u' w' : List ℕ} → get_or u k 0 * c % p ≡ 1 → Represents p r 𝟎 → Represents p s 𝟎

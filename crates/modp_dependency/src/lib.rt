@@ -3,15 +3,14 @@
 // above, and no entry point of the library.
 #![tactic(auto)]
 
-ghost use Rattle.std.specs.Prelude.{IfSome, ◌≡◌, ◌<◌, ◌≤◌, ◌-◌, ◌+◌};
+ghost use Rattle.std.specs.Prelude.{IfSome, ◌≡◌, ◌<◌, ◌≤◌, ◌-◌, ◌+◌, length};
 ghost use Rattle.algebra.specs.Fields.{Prime};
-ghost use Rattle.algebra.specs.PolynomialRing.{𝟎};
 ghost use Rattle.algebra.specs.Degree.{Below, Monic};
 ghost use Rattle.algebra.specs.CoefficientLists.{poly, Reduced};
-ghost use Rattle.arrays.specs.Represents.{Represents};
 ghost use Rattle.arrays.specs.Sizes.{Size};
 ghost use Rattle.modp_dependency.specs.Reduction.{TakenOff, Reducible, ReducedBy};
-ghost use Rattle.modp_dependency.specs.Storing.{MonicRow};
+ghost use Rattle.modp_dependency.specs.StoredRows.{row_images, row_preimages, FreeSlot};
+ghost use Rattle.modp_dependency.specs.Storing.{Stored};
 ghost use Rattle.modp_dependency.specs.Dependency.{Images, DependencyFound};
 
 use arrays::{Coefs, MonicPoly, monomial, size_below};
@@ -59,16 +58,18 @@ impl Held {
         }
     }
 
-    // Image and preimage, of degree i, go into a free slot, both times the constant that makes the image monic: the slot holds 0, and the multiples are added
-    // to it in place.
-    fn store(&self, slot: &mut Row, i: usize, p: u16)
-        requires { Prime p × (0 < self.now.size) × (i < 33) × Represents p slot.old.image 𝟎 × Represents p slot.old.preimage 𝟎
+    // Image and preimage, of degree i, go into the slot of the image's degree, which is free, both times the constant that makes the image monic: the slot holds
+    // 0, and the multiples are added to it in place.
+    fn store(&self, rows: &mut [Row], i: usize, p: u16)
+        requires { Prime p × (0 < self.now.size) × (self.now.size ≤ length rows.old) × (i < 33) × FreeSlot p rows.old (self.now.size - 1)
             × Reduced p 33 self.now.image × Reduced p 33 self.now.preimage × Below (i + 1) (poly p self.now.preimage) }
-        ensures { MonicRow p self.now.image self.now.preimage (self.now.size - 1) slot.new.image slot.new.preimage }
+        ensures { Stored p (row_images rows.old) (row_preimages rows.old) self.now.image self.now.preimage (self.now.size - 1)
+            (row_images rows.new) (row_preimages rows.new) }
     {
-        let c = inverse(self.image[self.size - 1], p);
-        add_in_place(&mut slot.image, c, &self.image, self.size, p);
-        add_in_place(&mut slot.preimage, c, &self.preimage, i + 1, p);
+        let k = self.size - 1;
+        let c = inverse(self.image[k], p);
+        add_in_place(&mut rows[k].image, c, &self.image, self.size, p);
+        add_in_place(&mut rows[k].preimage, c, &self.preimage, i + 1, p);
     }
 }
 
@@ -108,7 +109,7 @@ pub fn least_dependency(
             };
             return Some(found);
         }
-        held.store(&mut rows[held.size - 1], i, p);
+        held.store(&mut rows, i, p);
     }
     None
 }

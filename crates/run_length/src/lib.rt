@@ -68,7 +68,8 @@ fn is_power(i: usize, g: Coefs, f: &MonicPoly) -> bool
     requires { (1 < f.now.n) × (0 < f.now.degree) × Reduced f.now.n 33 g × Below f.now.degree (poly f.now.n g) }
     ensures { Decides result (IsPower f.now.n f.now.coefs g i) }
 {
-    equal(times_power_of_x(i, monomial(0), *f), g)
+    let r = times_power_of_x(i, monomial(0), *f);
+    equal(r, g)
 }
 
 // The highest small step that is g, if there is one. Few great steps share a mark with a small one, and `contains` looks at several marks at a time. Marks that

@@ -1,12 +1,12 @@
 -- `answer_reader::multiply` meets its contract.
 -- Assumes nothing.
-use Rattle.std.proofs.Common.{arith, rules}
+use Rattle.std.proofs.Common.{◌≡◌, Some, None, arith, rules}
 use Rattle.algebra.specs.TakenPrimes.{square_above_one}
 use Rattle.arrays.specs.declared.MonicPoly.{MonicPoly}
 use Rattle.commands.proofs.OperandCounts.{count_low}
 use Rattle.answer_reader.proofs.Multiplying.{multiplied_other, multiplying_first, multiplying_more, product_found, given_up}
 use Rattle.answer_reader.proofs.multiply.Goals as goal
-use Rattle.answer_reader.proofs.multiply.Goals.{then-answer-at+in-Some, else-answer-at}
+use Rattle.answer_reader.proofs.multiply.Goals.{then-answer-at+in_ok-grown, else-answer-at}
 
 pub loop-at-init : goal.loop-at-init
 loop-at-init c = (multiplying_first _ _ (square_above_one _ c.args.prime.taken) c.monomial.ensures, c.square.ensures)
@@ -17,8 +17,10 @@ invariant_of-grown c = record { monic = rw c.loop-at.invariant.1 c.loop-at.invar
 pub multiply_at-requires : goal.multiply_at-requires
 multiply_at-requires c = (search rules, c.loop-at-test.true, c.loop-at.invariant.1)
 
-pub returns-in-None : goal.returns-in-None
-returns-in-None c = given_up _ _ c.loop-at.invariant.0 c.loop-at-test.true c.in-None.ensures
+pub returns-in_err-grown : goal.returns-in_err-grown
+returns-in_err-grown c =
+    let none : c.multiply_at.result ≡ None = grind arith in
+    rw c.from_residual.ensures (given_up _ _ c.loop-at.invariant.0 c.loop-at-test.true (rw none at c.multiply_at.ensures))
 
 pub overflow_add-at : goal.overflow_add-at
 overflow_add-at c = omega (arith, c.operand_count.ensures, count_low)
@@ -30,8 +32,10 @@ pub loop-at-preserved : goal.loop-at-preserved
 loop-at-preserved c =
     let (w, same) = c.loop-at.invariant in
     elim c.if-answer-at.branch [
-      | then-answer-at+in-Some u ↦
-          rw u.grown-is (multiplying_more _ _ w c.loop-at-test.true u.in-Some.ensures c.operand_count.ensures, u.in-Some.ensures.sound.0)
+      | then-answer-at+in_ok-grown u ↦
+          let is : u.multiply_at.result ≡ Some u.in_ok-grown.grown = grind arith in
+          let more = rw is at u.multiply_at.ensures in
+          rw u.grown-is (multiplying_more _ _ w c.loop-at-test.true more c.operand_count.ensures, more.sound.0)
       | else-answer-at u ↦
           let (coefs, (degree, (n, _))) = c.loop-at.grown in
           let so_far : MonicPoly = record { coefs = coefs; degree = degree; n = n; monic = rw same w.array } in

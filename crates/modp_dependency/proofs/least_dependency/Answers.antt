@@ -1,10 +1,9 @@
 -- `modp_dependency::least_dependency` meets its contract.
 -- Assumes nothing.
-use Rattle.std.proofs.Common.{refl, ◌-◌, arith, rules, ⊎_elim}
+use Rattle.std.proofs.Common.{refl, ◌-◌, arith, ⊎_elim}
 use Rattle.algebra.specs.Degree.{below_up}
 use Rattle.arrays.specs.SameEntries.{zero_above}
 use Rattle.modp_dependency.specs.Dependency.{searching_none, image_reducible, image_reduced, free_slot, searching_found, found_monic, searching_more}
-use Rattle.modp_dependency.specs.Storing.{row_stored}
 use Rattle.modp_dependency.proofs.least_dependency.Goals as goal
 
 pub loop-i-init : goal.loop-i-init
@@ -33,18 +32,6 @@ returns-then-held-eq0 c =
     let left = image_reduced h.0 h.4 h.2 c.loop-i-test.true c.loop-i.invariant c.monomial-preimage.ensures c.size_below-size.ensures c.reduce.ensures in
     (searching_found h.0 c.loop-i-test.true c.loop-i.invariant left (omega arith), refl)
 
-pub offset_bounds-rows-held : goal.offset_bounds-rows-held
-offset_bounds-rows-held c =
-    let h = c.requires in
-    let left = image_reduced h.0 h.4 h.2 c.loop-i-test.true c.loop-i.invariant c.monomial-preimage.ensures c.size_below-size.ensures c.reduce.ensures in
-    search (rules, left.size.limit)
-
-pub bounds-rows-held : goal.bounds-rows-held
-bounds-rows-held c =
-    let h = c.requires in
-    let left = image_reduced h.0 h.4 h.2 c.loop-i-test.true c.loop-i.invariant c.monomial-preimage.ensures c.size_below-size.ensures c.reduce.ensures in
-    omega (arith, left.size.limit)
-
 pub store-requires : goal.store-requires
 store-requires c =
     let h = c.requires in
@@ -54,9 +41,9 @@ store-requires c =
     (⊎_elim (λ e. absurd (omega (arith, e))) (λ free. free) c.reduce.ensures.stops) in (
       h.0,
       omega arith,
+      omega (arith, c.loop-i.invariant.slots, left.size.limit),
       omega (arith, h.2),
-      slot.0,
-      slot.1,
+      slot,
       left.image,
       left.preimage,
       below_up (omega arith) left.reducing.monic.below,
@@ -68,4 +55,4 @@ loop-i-preserved c =
     let left = image_reduced h.0 h.4 h.2 c.loop-i-test.true c.loop-i.invariant c.monomial-preimage.ensures c.size_below-size.ensures c.reduce.ensures in
     searching_more h.0 c.loop-i-test.true c.loop-i.invariant left (omega arith)
     (⊎_elim (λ e. absurd (omega (arith, e))) (λ free. free) c.reduce.ensures.stops)
-    (row_stored _ (omega (arith, c.loop-i.invariant.slots, left.size.limit)) c.store.ensures)
+    c.store.ensures
