@@ -101,4 +101,5 @@ returns c =
       coefs = c.in_ok-coefs.coefs;
       run = c.in_ok-run.run';
     } in
-    (ap spec.whole read.same ∙ c.in_ok-ended.ensures (as_sheet said), sym (struct_back said c.in_ok-coefs.ensures.inside.good))
+    let whole : read_sheet c.args.sheet.now ≡ spec.accepted (as_sheet said) = ap spec.whole read.same ∙ c.in_ok-ended.ensures (as_sheet said) in
+    (whole, sym (struct_back said c.in_ok-coefs.ensures.inside.good))
