@@ -19,7 +19,6 @@ use Rattle.frobenius.specs.RowReduction.{Between, Stage, reducing_none, reducing
 use Rattle.frobenius.specs.LeastDependency.{LeastDependency, stage_found}
 use Rattle.modp_dependency.specs.declared.Row.{Row}
 use Rattle.modp_dependency.specs.StoredRows.{
-  FreeSlot,
   poly_at,
   ReducedRows,
   row_images,
@@ -128,7 +127,7 @@ image_reduced P I fits l S X z by = by.goes_on (image_reducible P I fits l S X z
 -- image and preimage of a free slot are 0, the latter since the map is injective so far
 pub free_slot : {p : ℕ} → Prime p → {images : List (List ℕ)} {first count d i : ℕ} {rows : List Row} (k : ℕ)
     → Searching p images first count d i rows → k < 33 → get_or (get_or rows k no_row).image k 0 ≡ 0
-    → FreeSlot p rows k
+    → Represents p (get_or rows k no_row).image 𝟎 × Represents p (get_or rows k no_row).preimage 𝟎
 free_slot {p} P {rows = rows} k S l e = (
   rw image_at at image,
   rw preimage_at at preimage,

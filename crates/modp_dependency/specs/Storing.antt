@@ -53,11 +53,11 @@ pub preimage_kept : {p : ℕ} (rows : List Row) {k : ℕ} (a : List ℕ) → k <
 preimage_kept rows {k} a l h = rw (get_or-set_same rows k _ no_row l) h.1
 
 -- the image is put into the slot first, and then the preimage
-pub halves_stored : {p : ℕ} (rows : List Row) {u w : List ℕ} {k : ℕ} {a b : List ℕ} → k < length rows → MonicRow p u w k a b
+pub both_stored : {p : ℕ} (rows : List Row) {u w : List ℕ} {k : ℕ} {a b : List ℕ} → k < length rows → MonicRow p u w k a b
     → Stored p (row_images rows) (row_preimages rows) u w k
     (row_images (set (with_image rows k a) k (record { image = (get_or (with_image rows k a) k no_row).image; preimage = b })))
     (row_preimages (set (with_image rows k a) k (record { image = (get_or (with_image rows k a) k no_row).image; preimage = b })))
-halves_stored rows {k = k} l h = rw (set-set rows k, get_or-set_same rows k _ no_row l) (row_stored rows l h)
+both_stored rows {k = k} l h = rw (set-set rows k, get_or-set_same rows k _ no_row l) (row_stored rows l h)
 
 -- c is the inverse of the leading coefficient, and the slot holds r and s
 pub monic_row : {p : ℕ} → Prime p → {u w r s : List ℕ} {k : ℕ} (c : ℕ) {u' w' : List ℕ} → get_or u k 0 * c % p ≡ 1 → Represents p r 𝟎 → Represents p s 𝟎

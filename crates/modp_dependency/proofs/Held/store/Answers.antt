@@ -2,7 +2,7 @@
 -- Assumes nothing.
 use Rattle.std.proofs.Common.{rules, arith}
 use Rattle.arrays.specs.SameEntries.{zero_above}
-use Rattle.modp_dependency.specs.Storing.{monic_row, preimage_kept, halves_stored}
+use Rattle.modp_dependency.specs.Storing.{monic_row, preimage_kept, both_stored}
 use Rattle.modp_dependency.proofs.Held.store.Goals as goal
 
 pub add_in_place-requires-2 : goal.add_in_place-requires-2
@@ -15,4 +15,4 @@ pub returns : goal.returns
 returns c =
     let h = c.requires in
     let kept = preimage_kept c.args.rows.now c.add_in_place.new.r (omega arith) h.4 in
-    halves_stored _ (omega arith) (monic_row h.0 _ c.inverse-c.ensures.1 h.4.0 kept c.add_in_place.ensures c.add_in_place-2.ensures)
+    both_stored _ (omega arith) (monic_row h.0 _ c.inverse-c.ensures.1 h.4.0 kept c.add_in_place.ensures c.add_in_place-2.ensures)
