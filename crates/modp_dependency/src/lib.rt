@@ -58,8 +58,8 @@ impl Held {
         }
     }
 
-    // Image and preimage, of degree i, go into the slot of the image's degree, both times the constant that makes the image monic: the slot is free and holds 0,
-    // and the multiples are added to it in place.
+    // Image and preimage, of degree i, go into the slot of the image's degree, which is free, both times the constant that makes the image monic: the slot
+    // holds 0, and the multiples are added to it in place.
     fn store(&self, rows: &mut [Row], i: usize, p: u16)
         requires { Prime p × (0 < self.now.size) × (self.now.size ≤ length rows.old) × (i < 33) × FreeSlot p rows.old (self.now.size - 1)
             × Reduced p 33 self.now.image × Reduced p 33 self.now.preimage × Below (i + 1) (poly p self.now.preimage) }
