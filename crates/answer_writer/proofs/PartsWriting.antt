@@ -36,7 +36,7 @@ module _ (g : parts.Part → List ℕ) (p : ℕ) (f : List ℕ) (d : ℕ) (found
     pub counted : Counted (take i Ps) t
     pub left : i < length (held_powers found) → LeftAt p f d found i rest e
 
--- xs is the vector as a slice
+-- xs is the powers as a slice
 module _ (g : parts.Part → List ℕ) {s : Sheet} {found : Powers} (F : PowersFound s.prime s.coefs s.degree found) (good : GoodSheet (as_sheet s))
     {old : Cursor} (room : Fits old (flat_map g (sheet_parts (as_sheet s)))) {xs : List Power} (same : xs ≡ held_powers found) where
   abbrev all : List parts.Part

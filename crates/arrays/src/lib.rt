@@ -23,7 +23,7 @@ pub struct MonicPoly {
     pub ghost monic: { MonicArray n degree coefs },
 }
 
-// 1 modulo 2, for a place that holds no polynomial yet.
+// 1 modulo 2, the least there is.
 impl Default for MonicPoly {
     ghost is_default = { λ q. (q.n ≡ 2) × (q.degree ≡ 0) × IsMonomial 0 q.coefs };
 

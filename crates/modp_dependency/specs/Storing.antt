@@ -1,11 +1,27 @@
 -- A row put into its slot: `MonicRow p u w k u' w'`, u' and w' are u and w times the constant that makes the coefficient k of u 1, so u' is monic where k is
 -- the degree of u; `Stored`, slot k holds such a row, and the others what they held.
--- Proves the first of what is added to a free slot, and that the stage of a search goes on with the second. Assumes nothing.
-use Rattle.std.specs.Prelude.{◌≡◌, List, [], ◌≢◌, ℕ, suc, ◌<◌, ◌≤◌, ◌*◌, ◌%◌, length, get_or, map, set}
-use Rattle.std.proofs.Common.{sym, ◌∙◌, ap, length-set, get_or-set_same, get_or-set_other}
-use Rattle.std.proofs.lemmas.List.{set-set}
+-- Proves the first of what is added to a free slot, that what is stored in the first rows is stored in all, and that the stage of a search goes on with the
+-- second. Assumes nothing.
+use Rattle.std.specs.Prelude.{◌≡◌, List, [], ◌++◌, ◌≢◌, ℕ, suc, ◌<◌, ◌≤◌, ◌+◌, ◌-◌, ◌*◌, ◌%◌, length, get_or, map, set, take, drop}
+use Rattle.std.proofs.Common.{
+  sym,
+  ◌∙◌,
+  ap,
+  ⊎_elim,
+  arith,
+  length-set,
+  length-append,
+  length-drop,
+  length-take-le,
+  get_or-set_same,
+  get_or-set_other,
+  get_or-take,
+  get_or-drop,
+}
+use Rattle.std.proofs.lemmas.List.{set-set, get_or-append_right}
 use Rattle.std.proofs.Math.Decide.{ℕ_discrete}
-use Rattle.std.proofs.Math.ListN.{length-map}
+use Rattle.std.proofs.Math.ListN.{length-map, get_or-append}
+use Rattle.algebra.specs.Numbers.{lt_or_le}
 use Rattle.algebra.specs.Residues.{ℤ/, residue, Residues, residue_inverse}
 use Rattle.algebra.specs.PolynomialRing.{◌·◌, 𝟎, constant}
 use Rattle.algebra.specs.Degree.{Below}
@@ -58,6 +74,43 @@ pub both_stored : {p : ℕ} (rows : List Row) {u w : List ℕ} {k : ℕ} {a b : 
     (row_images (set (with_image rows k a) k (record { image = (get_or (with_image rows k a) k no_row).image; preimage = b })))
     (row_preimages (set (with_image rows k a) k (record { image = (get_or (with_image rows k a) k no_row).image; preimage = b })))
 both_stored rows {k = k} l h = rw (set-set rows k, get_or-set_same rows k _ no_row l) (row_stored rows l h)
+
+-- a slot among the first d rows
+pub first_free : (rows : List Row) {p d k : ℕ} → k < d → FreeSlot p rows k → FreeSlot p (take d rows) k
+first_free rows {d = d} {k} low h = rw (get_or-take d rows k no_row low) h
+
+-- what is stored in these is stored in all
+module _ (rows part : List Row) {d k : ℕ} (reach : d ≤ length rows) (low : k < d) where
+  abbrev all : List Row
+  all = part ++ drop d rows
+
+  module _ (same : length part ≡ d) where
+    of_all : (f : Row → List ℕ) → length (map f all) ≡ length (map f rows)
+    of_all f = omega (arith, length-map all f, length-map rows f, length-append part (drop d rows), length-drop d rows, same)
+
+    at_first : {j : ℕ} → j < d → get_or all j no_row ≡ get_or part j no_row
+    at_first {j} l = get_or-append part (drop d rows) no_row j (omega (arith, same))
+
+    others : (f : Row → List ℕ) {j : ℕ} → (j < d → f (get_or part j no_row) ≡ f (get_or (take d rows) j no_row))
+        → f (get_or all j no_row) ≡ f (get_or rows j no_row)
+    others f {j} h = ⊎_elim (λ l. ap f (at_first l) ∙ h l ∙ ap f (get_or-take d rows j no_row l))
+        (λ l. ap f (get_or-append_right part (drop d rows) d j no_row same l ∙ get_or-drop d rows (j - d) no_row
+        ∙ ap (λ i. get_or rows i no_row) (let s : d + (j - d) ≡ j = omega arith in s)))
+        (lt_or_le j d)
+
+  pub first_stored : {p : ℕ} {u w : List ℕ} → Stored p (row_images (take d rows)) (row_preimages (take d rows)) u w k (row_images part) (row_preimages part)
+      → Stored p (row_images rows) (row_preimages rows) u w k (row_images all) (row_preimages all)
+  first_stored h =
+      let same : length part ≡ d =
+      omega (arith, h.slots.0, length-map part (λ r. r.image), length-map (take d rows) (λ r. r.image), length-take-le d rows reach) in
+      record {
+        row = rw (image_at, preimage_at, at_first same low) (rw (image_at, preimage_at) at h.row);
+        slots = (of_all same (λ r. r.image), of_all same (λ r. r.preimage));
+        image = λ j ne. image_at all j ∙ others same (λ r. r.image) (λ l. sym (image_at part j) ∙ h.image j ne ∙ image_at (take d rows) j)
+            ∙ sym (image_at rows j);
+        preimage = λ j ne. preimage_at all j
+            ∙ others same (λ r. r.preimage) (λ l. sym (preimage_at part j) ∙ h.preimage j ne ∙ preimage_at (take d rows) j) ∙ sym (preimage_at rows j);
+      }
 
 -- c is the inverse of the leading coefficient, and the slot holds r and s
 pub monic_row : {p : ℕ} → Prime p → {u w r s : List ℕ} {k : ℕ} (c : ℕ) {u' w' : List ℕ} → get_or u k 0 * c % p ≡ 1 → Represents p r 𝟎 → Represents p s 𝟎

@@ -109,7 +109,7 @@ pub fn least_dependency(
             };
             return Some(found);
         }
-        held.store(&mut rows, i, p);
+        held.store(&mut rows[..d], i, p);
     }
     None
 }

@@ -1,9 +1,10 @@
 -- `modp_dependency::least_dependency` meets its contract.
 -- Assumes nothing.
-use Rattle.std.proofs.Common.{refl, ◌-◌, arith, ⊎_elim}
+use Rattle.std.proofs.Common.{refl, ◌-◌, arith, ⊎_elim, length-take-le}
 use Rattle.algebra.specs.Degree.{below_up}
 use Rattle.arrays.specs.SameEntries.{zero_above}
 use Rattle.modp_dependency.specs.Dependency.{searching_none, image_reducible, image_reduced, free_slot, searching_found, found_monic, searching_more}
+use Rattle.modp_dependency.specs.Storing.{first_free, first_stored}
 use Rattle.modp_dependency.proofs.least_dependency.Goals as goal
 
 pub loop-i-init : goal.loop-i-init
@@ -41,9 +42,9 @@ store-requires c =
     (⊎_elim (λ e. absurd (omega (arith, e))) (λ free. free) c.reduce.ensures.stops) in (
       h.0,
       omega arith,
-      omega (arith, c.loop-i.invariant.slots, left.size.limit),
+      omega (arith, left.reach, length-take-le c.args.d c.loop-i.rows (omega (arith, h.3, c.loop-i.invariant.slots))),
       omega (arith, h.2),
-      slot,
+      first_free c.loop-i.rows (omega (arith, left.reach)) slot,
       left.image,
       left.preimage,
       below_up (omega arith) left.reducing.monic.below,
@@ -55,4 +56,4 @@ loop-i-preserved c =
     let left = image_reduced h.0 h.4 h.2 c.loop-i-test.true c.loop-i.invariant c.monomial-preimage.ensures c.size_below-size.ensures c.reduce.ensures in
     searching_more h.0 c.loop-i-test.true c.loop-i.invariant left (omega arith)
     (⊎_elim (λ e. absurd (omega (arith, e))) (λ free. free) c.reduce.ensures.stops)
-    c.store.ensures
+    (first_stored c.loop-i.rows c.store.new.rows (omega (arith, h.3, c.loop-i.invariant.slots)) (omega (arith, left.reach)) c.store.ensures)

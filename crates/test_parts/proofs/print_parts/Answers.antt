@@ -8,7 +8,7 @@ use Rattle.parts.specs.PowersLeft.{Left, FirstPart}
 use Rattle.parts.proofs.PartsInTurn.{LeftAt, all_left, next_left, left_next}
 use Rattle.test_parts.proofs.print_parts.Goals as goal
 
--- xs is the vector as a slice
+-- xs is the powers as a slice
 module _ {p : ℕ} {f : List ℕ} {d : ℕ} {found : Powers} (F : PowersFound p f d found) {xs : List Power} (same : xs ≡ held_powers found)
     {i : ℕ} {rest : List ℕ} {e : ℕ} (l : i < length xs) (w : i < length (held_powers found) → LeftAt p f d found i rest e) where
   held : i < length (held_powers found)
